@@ -1,0 +1,6 @@
+pub mod Put
+pub mod Emits
+pub mod Numbers
+pub mod Digits
+pub mod Table
+pub mod Bars
