@@ -2,5 +2,5 @@ pub mod Put
 pub mod Emits
 pub mod Numbers
 pub mod Digits
+pub mod Tests
 pub mod Table
-pub mod Bars

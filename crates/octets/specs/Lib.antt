@@ -1,3 +1,4 @@
 pub mod Read
 pub mod Emit
 pub mod Text
+pub mod Tests

@@ -1,0 +1,32 @@
+use mathlib.Core.Path.{_≡_, refl, _∙_}
+use mathlib.Core.Bool.{true}
+use mathlib.Core.List.{[]}
+use Rattle.octets.specs.Tests.{all}
+use Rattle.names.specs.Texts.{texts, numberOf, placeFrom, same}
+use Rattle.codes.specs.Codes.{nameIn, textIn, securityClasses}
+use Rattle.codes.proofs.Tables.{right, within, beyond}
+use borrow.Author.Needs.{needs}
+use Rattle.codes.proofs.atn_security_class_name.Statement.{statement}
+use Rattle.codes.proofs.atn_security_class_name.Tie as tie
+
+test : all (right securityClasses [] 0 0 6) 6 ≡ true
+unfolding securityClasses texts numberOf placeFrom same nameIn textIn all
+test = refl
+
+element-copy-out-lifted : tie.Need-element-copy-out-lifted
+element-copy-out-lifted c = search needs
+
+lifted-requires : tie.Need-lifted-requires
+lifted-requires c κs = search needs
+
+returns : tie.Need-returns
+unfolding securityClasses texts numberOf placeFrom same nameIn
+returns c = c .lifted .ensures ∙ within securityClasses [] 0 0 6 (c .before .before .before .before .args .c) test (search needs)
+
+returns-2 : tie.Need-returns-2
+unfolding securityClasses texts numberOf placeFrom same
+returns-2 c = beyond securityClasses [] 0 0 6 (c .before .args .c) refl (search needs) refl
+
+pub atn-security-class-name-spec : {M : Type 1} → statement M
+atn-security-class-name-spec =
+    tie.close (tie.spec element-copy-out-lifted lifted-requires returns returns-2)

@@ -1,0 +1,32 @@
+use mathlib.Core.Path.{_≡_, refl, _∙_}
+use mathlib.Core.Bool.{true}
+use mathlib.Core.List.{[]}
+use Rattle.octets.specs.Tests.{all}
+use Rattle.names.specs.Texts.{texts, numberOf, placeFrom, same}
+use Rattle.codes.specs.Codes.{nameIn, textIn, disconnectReasons}
+use Rattle.codes.proofs.Tables.{right, within, beyond}
+use borrow.Author.Needs.{needs}
+use Rattle.codes.proofs.cotp_dr_reason.Statement.{statement}
+use Rattle.codes.proofs.cotp_dr_reason.Tie as tie
+
+test : all (right disconnectReasons [] 0 244 139) 139 ≡ true
+unfolding disconnectReasons texts numberOf placeFrom same nameIn textIn all
+test = refl
+
+element-copy-out-lifted : tie.Need-element-copy-out-lifted
+element-copy-out-lifted c = search needs
+
+lifted-requires : tie.Need-lifted-requires
+lifted-requires c κs = search needs
+
+returns : tie.Need-returns
+unfolding disconnectReasons texts numberOf placeFrom same nameIn
+returns c = c .lifted .ensures ∙ within disconnectReasons [] 0 244 139 (c .before .before .before .before .args .c) test (search needs)
+
+returns-2 : tie.Need-returns-2
+unfolding disconnectReasons texts numberOf placeFrom same
+returns-2 c = beyond disconnectReasons [] 0 244 139 (c .before .args .c) refl (search needs) refl
+
+pub cotp-dr-reason-spec : {M : Type 1} → statement M
+cotp-dr-reason-spec =
+    tie.close (tie.spec element-copy-out-lifted lifted-requires returns returns-2)

@@ -1,0 +1,33 @@
+use mathlib.Core.Path.{_≡_, refl, _∙_}
+use mathlib.Core.Bool.{true}
+use mathlib.Core.List.{[]}
+use Rattle.octets.specs.Tests.{all}
+use Rattle.names.specs.Texts.{texts, numberOf, placeFrom, same}
+use Rattle.codes.specs.Codes.{nameIn, textIn, esisOptions}
+use Rattle.names.specs.Ascii.{octets}
+use Rattle.codes.proofs.Tables.{right, within, beyond}
+use borrow.Author.Needs.{needs}
+use Rattle.codes.proofs.esis_option_name.Statement.{statement}
+use Rattle.codes.proofs.esis_option_name.Tie as tie
+
+test : all (right esisOptions (octets "unknown") 142 0 208) 208 ≡ true
+unfolding esisOptions texts numberOf placeFrom same nameIn textIn all
+test = refl
+
+element-copy-out-lifted : tie.Need-element-copy-out-lifted
+element-copy-out-lifted c = search needs
+
+lifted-requires : tie.Need-lifted-requires
+lifted-requires c κs = search needs
+
+returns : tie.Need-returns
+unfolding esisOptions texts numberOf placeFrom same nameIn
+returns c = c .lifted .ensures ∙ within esisOptions (octets "unknown") 142 0 208 (c .before .before .before .before .args .c) test (search needs)
+
+returns-2 : tie.Need-returns-2
+unfolding esisOptions texts numberOf placeFrom same
+returns-2 c = beyond esisOptions (octets "unknown") 142 0 208 (c .before .args .c) refl (search needs) refl
+
+pub esis-option-name-spec : {M : Type 1} → statement M
+esis-option-name-spec =
+    tie.close (tie.spec element-copy-out-lifted lifted-requires returns returns-2)

@@ -1,0 +1,33 @@
+use mathlib.Core.Path.{_≡_, refl, _∙_}
+use mathlib.Core.Bool.{true}
+use mathlib.Core.List.{[]}
+use Rattle.octets.specs.Tests.{all}
+use Rattle.names.specs.Texts.{texts, numberOf, placeFrom, same}
+use Rattle.codes.specs.Codes.{nameIn, textIn, idrpTypes}
+use Rattle.names.specs.Ascii.{octets}
+use Rattle.codes.proofs.Tables.{right, within, beyond}
+use borrow.Author.Needs.{needs}
+use Rattle.codes.proofs.idrp_pdu_type_name.Statement.{statement}
+use Rattle.codes.proofs.idrp_pdu_type_name.Tie as tie
+
+test : all (right idrpTypes (octets "?") 123 0 7) 7 ≡ true
+unfolding idrpTypes texts numberOf placeFrom same nameIn textIn all
+test = refl
+
+element-copy-out-lifted : tie.Need-element-copy-out-lifted
+element-copy-out-lifted c = search needs
+
+lifted-requires : tie.Need-lifted-requires
+lifted-requires c κs = search needs
+
+returns : tie.Need-returns
+unfolding idrpTypes texts numberOf placeFrom same nameIn
+returns c = c .lifted .ensures ∙ within idrpTypes (octets "?") 123 0 7 (c .before .before .before .before .args .c) test (search needs)
+
+returns-2 : tie.Need-returns-2
+unfolding idrpTypes texts numberOf placeFrom same
+returns-2 c = beyond idrpTypes (octets "?") 123 0 7 (c .before .args .c) refl (search needs) refl
+
+pub idrp-pdu-type-name-spec : {M : Type 1} → statement M
+idrp-pdu-type-name-spec =
+    tie.close (tie.spec element-copy-out-lifted lifted-requires returns returns-2)

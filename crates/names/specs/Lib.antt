@@ -1,0 +1,4 @@
+pub mod Ascii
+pub mod Bars
+pub mod Keys
+pub mod Texts
