@@ -3,6 +3,7 @@ use mathlib.Core.List.{List, [], _∷_}
 use Prim.Native.Nat.{ℕ}
 use lib.ListN.{getD}
 use Rattle.names.specs.Ascii.{octets}
+use Rattle.names.specs.Place.{placeFrom}
 
 unfoldable pub keys : List (List ℕ)
 keys =
@@ -105,3 +106,7 @@ allKeys = [] ∷ keys
 -- the key of a field number, counted from 1; no octets for any other number
 abbrev pub keyText : ℕ → List ℕ
 keyText n = getD allKeys n []
+
+-- the field number of a key; 0 for one that is none of them
+unfoldable pub fieldOf : List ℕ → ℕ
+fieldOf t = placeFrom 0 allKeys t

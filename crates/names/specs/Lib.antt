@@ -1,4 +1,6 @@
 pub mod Ascii
 pub mod Bars
+pub mod Place
 pub mod Keys
 pub mod Texts
+pub mod Numbers

@@ -1,11 +1,9 @@
 -- The fixed texts of the Rust, each once, in the order in which its text first has them: docs/RECORDS.md.
 use mathlib.Core.List.{List, [], _∷_}
-use mathlib.Core.Bool.{Bool, true, false, _&&_}
-use Prim.Native.Nat.{ℕ, suc}
-use lib.Dec.{eqb}
+use Prim.Native.Nat.{ℕ}
 use lib.ListN.{getD}
-use Rattle.octets.specs.Text.{pick}
 use Rattle.names.specs.Ascii.{octets}
+use Rattle.names.specs.Place.{placeFrom}
 
 unfoldable pub texts : List (List ℕ)
 texts =
@@ -306,18 +304,6 @@ allTexts = [] ∷ texts
 -- the text of a text number, counted from 1; no octets for any other number
 abbrev pub textOf : ℕ → List ℕ
 textOf n = getD allTexts n []
-
--- two texts are the same, octet by octet
-unfoldable pub same : List ℕ → List ℕ → Bool
-same [] [] = true
-same [] (y ∷ ys) = false
-same (x ∷ xs) [] = false
-same (x ∷ xs) (y ∷ ys) = let rest = same xs ys in eqb x y && rest
-
--- the place of a text in a list whose first place is k; 0 where it is none of them
-unfoldable pub placeFrom : ℕ → List (List ℕ) → List ℕ → ℕ
-placeFrom k [] t = 0
-placeFrom k (x ∷ xs) t = let later = placeFrom (suc k) xs t in pick (same x t) k later
 
 -- the number of a text; 0 for no text, and for one that is none of them
 unfoldable pub numberOf : List ℕ → ℕ

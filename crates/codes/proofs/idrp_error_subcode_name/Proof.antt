@@ -1,4 +1,5 @@
-use Rattle.names.specs.Texts.{numberOf, placeFrom, same}
+use Rattle.names.specs.Texts.{numberOf}
+use Rattle.names.specs.Place.{placeFrom, same}
 use mathlib.Core.Path.{refl, _∙_}
 use borrow.Author.Tests.{eq-eqb, ne-eqb}
 use Rattle.codes.specs.Codes.{errorSubcodes, textIn, nameIn}

@@ -2,7 +2,8 @@ use mathlib.Core.Path.{_≡_, refl, _∙_}
 use mathlib.Core.Bool.{true}
 use mathlib.Core.List.{[]}
 use Rattle.octets.specs.Tests.{all}
-use Rattle.names.specs.Texts.{texts, numberOf, placeFrom, same}
+use Rattle.names.specs.Texts.{texts, numberOf}
+use Rattle.names.specs.Place.{placeFrom, same}
 use Rattle.codes.specs.Codes.{nameIn, textIn, clearCauses}
 use Rattle.codes.proofs.Tables.{right, within, beyond}
 use borrow.Author.Needs.{needs}
