@@ -20,6 +20,10 @@ pub nothing : (o : List ℕ) (at : ℕ) → length o ≤ top → at ≤ top → 
 unfolding onFrom
 nothing o at l h = record { held = sym (put-nil o at); place = omega arith; small = l }
 
+-- what is put, spelt another way
+pub emits-as : {o p xs ys : List ℕ} {at n : ℕ} → xs ≡ ys → Emits o at xs p n → Emits o at ys p n
+emits-as {o} {p} {xs} {ys} {at} {n} k e = subst (λ (l : List ℕ). Emits o at l p n) k e
+
 -- two emits, one after the other
 pub then : {o p q : List ℕ} {at b c : ℕ} {xs ys : List ℕ} → Emits o at xs p b → Emits p b ys q c → Emits o at (xs ++ ys) q c
 unfolding onFrom
@@ -44,7 +48,7 @@ abbrev pub Toward : List ℕ → ℕ → List ℕ → List ℕ → ℕ → List 
 Toward old at₀ xs o a ys = (p : List ℕ) (n : ℕ) → Emits o a ys p n → Emits old at₀ xs p n
 
 pub onward : {old o q : List ℕ} {at₀ a b : ℕ} {xs ys c zs : List ℕ} → Toward old at₀ xs o a ys → Emits o a c q b → ys ≡ c ++ zs → Toward old at₀ xs q b zs
-onward {old} {o} {q} {at₀} {a} {b} {xs} {ys} {c} {zs} t e k p n g = t p n (subst (λ (l : List ℕ). Emits o a l p n) (sym k) (then e g))
+onward {old} {o} {q} {at₀} {a} {b} {xs} {ys} {c} {zs} t e k p n g = t p n (emits-as (sym k) (then e g))
 
 pub finish : {old o : List ℕ} {at₀ a : ℕ} {xs ys : List ℕ} → Toward old at₀ xs o a ys → ys ≡ [] → length o ≤ top → a ≤ top → Emits old at₀ xs o a
-finish {old} {o} {at₀} {a} {xs} {ys} t k l h = t o a (subst (λ (z : List ℕ). Emits o a z o a) (sym k) (nothing o a l h))
+finish {old} {o} {at₀} {a} {xs} {ys} t k l h = t o a (emits-as (sym k) (nothing o a l h))

@@ -1,7 +1,8 @@
 use lib.Seq.{take-length}
 use denote.Ref.{now}
 use native.Mathlib.Omega.{arith}
-use Rattle.octets.specs.Emit.{onFrom}
+use mathlib.Core.Path.{ap, _∙_}
+use Rattle.octets.specs.Emit.{put, onFrom}
 use borrow.Author.Needs.{needs}
 use Rattle.octets.proofs.emit.put_octets.Statement.{statement}
 use Rattle.octets.proofs.emit.put_octets.Tie as tie
@@ -22,7 +23,7 @@ returns : tie.Need-returns
 unfolding onFrom
 returns c =
     let a = c .before .before .before .before .before .before .before .before .args in
-    record { held = rw (take-length (now (a .s))) at (c .before .before .copy .ensures); place = search needs; small = search needs }
+    record { held = c .before .before .copy .ensures ∙ ap (put (now (a .out)) (a .at)) (take-length (now (a .s))); place = search needs; small = search needs }
 
 put-each-requires : tie.Need-put-each-requires
 put-each-requires c κs = search needs

@@ -1,5 +1,8 @@
+use mathlib.Core.Path.{ap₂}
+use mathlib.Core.List.{[], _∷_}
+use Prim.Native.Nat.{ℕ}
 use Rattle.octets.specs.Text.{hexOctet}
-use Rattle.octets.proofs.Emits.{then}
+use Rattle.octets.proofs.Emits.{emits-as, then}
 use borrow.Author.Needs.{needs}
 use Rattle.octets.proofs.text.put_hex_octet.Statement.{statement}
 use Rattle.octets.proofs.text.put_hex_octet.Tie as tie
@@ -29,7 +32,7 @@ returns : tie.Need-returns
 unfolding hexOctet
 returns c =
     let d = c .before .before .before .before .before .before .before .before in
-    rw (← (d .before .hex-digit .ensures), ← (d .hex-digit2 .ensures))
+    emits-as (ap₂ (λ (h l : ℕ). h ∷ l ∷ []) (d .before .hex-digit .ensures) (d .hex-digit2 .ensures))
     (then (c .before .before .before .before .before .before .put-octet .ensures) (c .before .before .put-octet2 .ensures))
 
 pub put-hex-octet-spec : {M : Type 1} → statement M
