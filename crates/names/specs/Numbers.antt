@@ -2,6 +2,7 @@
 use mathlib.Core.Path.{_≡_, refl}
 use mathlib.Core.List.{List, [], _∷_, map}
 use Prim.Native.Nat.{ℕ}
+use lib.ListN.{length}
 use Rattle.names.specs.Ascii.{octets}
 use Rattle.names.specs.Keys.{keys, keyText}
 use Rattle.names.specs.Texts.{texts, textOf}
@@ -422,6 +423,21 @@ tEa = 287
 
 abbrev pub tRj : ℕ
 tRj = 288
+
+-- the largest field number and the largest text number
+abbrev pub lastField : ℕ
+lastField = 90
+
+abbrev pub lastText : ℕ
+lastText = 288
+
+pub keys-counted : length keys ≡ lastField
+unfolding keys
+keys-counted = refl
+
+pub texts-counted : length texts ≡ lastText
+unfolding texts
+texts-counted = refl
 
 -- each is its own key's or text's number
 pub keys-numbered : map keyText (
