@@ -1,0 +1,5 @@
+pub mod Cost
+pub mod Kind
+pub mod Store
+pub mod Alone
+pub mod Rust
