@@ -35,7 +35,7 @@ module _ (rows : List Row) (other : List ℕ) (o base n : ℕ) where
   right c = eqb (lift o base (entry c)) (textIn rows other c)
 
   pub within : (c : ℕ) → all right n ≡ true → c < n → lift o base (getD (values entry 0 n) c 0) ≡ textIn rows other c
-  within c h l = ap (lift o base) (at entry n c l) ∙ eqb-true (lift o base (entry c)) (textIn rows other c) (all-at right n c h l)
+  within c h l = ap (lift o base) (at entry n c l) ∙ eqb-true (lift o base (entry c)) (textIn rows other c) (all-at right c n h l)
 
   pub beyond : (c : ℕ) → below rows n ≡ true → n ≤ c → o ≡ numberOf other → o ≡ textIn rows other c
   unfolding textIn

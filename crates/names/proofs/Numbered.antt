@@ -10,13 +10,10 @@ use lib.ListN.{length, getD}
 use borrow.Author.Tests.{eqb-true}
 use Rattle.octets.specs.Text.{pick}
 use Rattle.octets.specs.Tests.{all}
-use Rattle.octets.proofs.Tests.{all-at, and-left, and-right}
+use Rattle.octets.proofs.Tests.{no-true, all-at, and-left, and-right}
 use Rattle.names.specs.Place.{same, placeFrom}
 use Rattle.names.specs.Keys.{keys, allKeys, keyText, fieldOf}
 use Rattle.names.specs.Texts.{texts, allTexts, textOf, numberOf}
-
-no-true : {A : Type 0} → false ≡ true → A
-no-true e = let z : _≡_ {A = ℕ} 0 1 = cc in absurd (omega arith)
 
 same-is : (x t : List ℕ) → same x t ≡ true → x ≡ t
 unfolding same
@@ -66,14 +63,14 @@ unfolding numberOf placeFrom same texts all
 text-test = refl
 
 pub number-back : (n : ℕ) → n ≤ 288 → numberOf (textOf n) ≡ n
-number-back n h = eqb-true (numberOf (textOf n)) n (all-at (λ n. eqb (numberOf (textOf n)) n) 289 n text-test (omega arith))
+number-back n h = eqb-true (numberOf (textOf n)) n (all-at (λ n. eqb (numberOf (textOf n)) n) n 289 text-test (omega arith))
 
 key-test : all (λ n. eqb (fieldOf (keyText n)) n) 91 ≡ true
 unfolding fieldOf placeFrom same keys all
 key-test = refl
 
 pub field-back : (n : ℕ) → n ≤ 90 → fieldOf (keyText n) ≡ n
-field-back n h = eqb-true (fieldOf (keyText n)) n (all-at (λ n. eqb (fieldOf (keyText n)) n) 91 n key-test (omega arith))
+field-back n h = eqb-true (fieldOf (keyText n)) n (all-at (λ n. eqb (fieldOf (keyText n)) n) n 91 key-test (omega arith))
 
 -- printable ASCII, and neither a quotation mark nor a backslash
 abbrev pub plain : List ℕ → Bool
@@ -85,11 +82,11 @@ unfolding texts all
 texts-plain-test = refl
 
 pub texts-plain : (n : ℕ) → n ≤ 288 → plain (textOf n) ≡ true
-texts-plain n h = all-at (λ n. plain (textOf n)) 289 n texts-plain-test (omega arith)
+texts-plain n h = all-at (λ n. plain (textOf n)) n 289 texts-plain-test (omega arith)
 
 keys-plain-test : all (λ n. plain (keyText n)) 91 ≡ true
 unfolding keys all
 keys-plain-test = refl
 
 pub keys-plain : (n : ℕ) → n ≤ 90 → plain (keyText n) ≡ true
-keys-plain n h = all-at (λ n. plain (keyText n)) 91 n keys-plain-test (omega arith)
+keys-plain n h = all-at (λ n. plain (keyText n)) n 91 keys-plain-test (omega arith)

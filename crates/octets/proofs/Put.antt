@@ -1,6 +1,6 @@
 -- The laws of `put`, which says what a copy and an emitter leave.
 use mathlib.Core.Path.{_≡_, refl, sym, ap, _∙_}
-use mathlib.Core.List.{List, [], _∷_, _++_}
+use mathlib.Core.List.{List, [], _∷_, _++_, append-assoc}
 use Prim.Native.Nat.{ℕ, zero, suc, _+_, _≤_, _<_}
 use native.Mathlib.Nat.{add-zero, add-suc, suc-add}
 use native.Mathlib.Numerals.{add-one}
@@ -26,6 +26,10 @@ module _ {A : Type 0} where
   pub put-fits : (d : List A) (at : ℕ) (s : List A) → at + length s ≤ length d → put d at s ≡ take at d ++ s ++ drop (at + length s) d
   unfolding put
   put-fits d at s h = sets-eq s d at h
+
+  -- the same, with the brackets to the right
+  pub put-is : (d : List A) (at : ℕ) (s : List A) → at + length s ≤ length d → put d at s ≡ take at d ++ (s ++ drop (at + length s) d)
+  put-is d at s h = put-fits d at s h ∙ append-assoc (take at d) s (drop (at + length s) d)
 
   sets-past : (s d : List A) (at : ℕ) → length d ≤ at → sets d at s ≡ d
   sets-past [] d at h = refl

@@ -1,0 +1,6 @@
+pub mod Laws
+pub mod Flat
+pub mod Swap
+pub mod Home
+pub mod Moves
+pub mod Spelt

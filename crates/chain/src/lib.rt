@@ -1,0 +1,221 @@
+// A list of block numbers in which none stands twice, with its inverse, and the octets that it spells.
+ghost use mathlib.Core.Path.{_≡_};
+ghost use mathlib.Core.Bool.{true};
+ghost use mathlib.Core.List.{_++_};
+ghost use Prim.Native.Nat.{_+_, _*_, _-_, _≤_, _<_};
+ghost use lib.ListN.{length, getD, set, take, drop};
+ghost use Rattle.octets.specs.Emit.{put};
+ghost use Rattle.chain.specs.Chain.{chainOk, homed, inUseAt, swapped, flat, Grown};
+use octets::emit::copy;
+
+// dst with n entries from index at replaced by src's from index from on.
+pub fn copy16(dst: &mut [u16], at: usize, src: &[u16], from: usize, n: usize)
+    requires { ⌜ (at + n ≤ length (now dst)) × (from + n ≤ length (now src)) ⌝ }
+    ensures { λ _. ⌜ now (dst .exit) ≡ put (now (dst .entry)) at (take n (drop from (now (src .entry)))) ⌝ }
+{
+    let mut j: usize = 0;
+    while j < n {
+        dst[at + j] = src[from + j];
+        j += 1;
+    }
+}
+
+// Whether the first n entries are blocks below b, each at its home.
+pub fn homed_ok(list: &[u16], home: &[u16], b: usize, n: usize) -> bool
+    requires { ⌜ (n ≤ length (now list)) × (b ≤ length (now home)) ⌝ }
+    ensures { λ r. ⌜ r ≡ homed (now (home .entry)) (now (list .entry)) b n ⌝ }
+{
+    let mut i: usize = 0;
+    while i < n {
+        let x = list[i] as usize;
+        if b <= x {
+            return false;
+        }
+        if home[x] as usize != i {
+            return false;
+        }
+        i += 1;
+    }
+    true
+}
+
+// The home of each entry from p on, up to n, is set.
+pub fn rehome(list: &[u16], home: &mut [u16], b: usize, p: usize, n: usize)
+    requires { ⌜ (p ≤ n) × (n ≤ length (now list)) × (n ≤ 1024) × (b ≤ length (now home)) × (chainOk b (take n (now list)) ≡ true) × (homed (now home) (now list) b p ≡ true) ⌝ }
+    ensures { λ _. ⌜ homed (now (home .exit)) (now (list .entry)) b n ≡ true ⌝ }
+{
+    let mut i = p;
+    while i < n {
+        let x = list[i] as usize;
+        home[x] = i as u16;
+        i += 1;
+    }
+}
+
+// Whether x is one of the first n.
+pub fn in_use(list: &[u16], home: &[u16], n: usize, x: usize) -> bool
+    requires { ⌜ (n ≤ length (now list)) × (x < length (now home)) ⌝ }
+    ensures { λ r. ⌜ r ≡ inUseAt (now (home .entry)) (now (list .entry)) n x ⌝ }
+{
+    let h = home[x] as usize;
+    if h < n { list[h] as usize == x } else { false }
+}
+
+// A block that is none of the first n is put behind them.
+pub fn one_more(list: &mut [u16], home: &mut [u16], b: usize, n: usize)
+    requires { ⌜ (n < b) × (b ≤ 1024) × (b ≤ length (now list)) × (b ≤ length (now home)) × (homed (now home) (now list) b n ≡ true) ⌝ }
+    ensures { λ _. ⌜ (take n (now (list .exit)) ≡ take n (now (list .entry))) × (homed (now (home .exit)) (now (list .exit)) b (n + 1) ≡ true) ⌝ }
+{
+    let c = list[n] as usize;
+    if c < b {
+        if !in_use(list, home, n, c) {
+            home[c] = n as u16;
+            return;
+        }
+    }
+    let mut x: usize = 0;
+    while x < b {
+        if !in_use(list, home, n, x) {
+            list[n] = x as u16;
+            home[x] = n as u16;
+            return;
+        }
+        x += 1;
+    }
+}
+
+// m blocks that are none of the first n are put behind them.
+pub fn more(list: &mut [u16], home: &mut [u16], b: usize, n: usize, m: usize)
+    requires { ⌜ (n + m ≤ b) × (b ≤ 1024) × (b ≤ length (now list)) × (b ≤ length (now home)) × (homed (now home) (now list) b n ≡ true) ⌝ }
+    ensures { λ _. ⌜ (take n (now (list .exit)) ≡ take n (now (list .entry))) × (homed (now (home .exit)) (now (list .exit)) b (n + m) ≡ true) ⌝ }
+{
+    let mut i: usize = 0;
+    while i < m {
+        one_more(list, home, b, n + i);
+        i += 1;
+    }
+}
+
+// The runs from p to q and from q to e change places.
+pub fn swap_near(list: &mut [u16], p: usize, q: usize, e: usize)
+    requires { ⌜ (p ≤ q) × (q ≤ e) × (e ≤ length (now list)) × (e ≤ p + 128) ⌝ }
+    ensures { λ _. ⌜ now (list .exit) ≡ swapped (now (list .entry)) p q e ⌝ }
+{
+    let mut s = [0u16; 128];
+    copy16(&mut s, 0, list, q, e - q);
+    copy16(&mut s, e - q, list, p, q - p);
+    copy16(list, p, &s, 0, e - p);
+}
+
+pub fn swap_far(list: &mut [u16], p: usize, q: usize, e: usize)
+    requires { ⌜ (p ≤ q) × (q ≤ e) × (e ≤ length (now list)) × (e ≤ p + 1024) ⌝ }
+    ensures { λ _. ⌜ now (list .exit) ≡ swapped (now (list .entry)) p q e ⌝ }
+{
+    let mut s = [0u16; 1024];
+    copy16(&mut s, 0, list, q, e - q);
+    copy16(&mut s, e - q, list, p, q - p);
+    copy16(list, p, &s, 0, e - p);
+}
+
+pub fn swap_runs(list: &mut [u16], p: usize, q: usize, e: usize)
+    requires { ⌜ (p ≤ q) × (q ≤ e) × (e ≤ length (now list)) × (e ≤ p + 1024) ⌝ }
+    ensures { λ _. ⌜ now (list .exit) ≡ swapped (now (list .entry)) p q e ⌝ }
+{
+    if e - p <= 128 {
+        swap_near(list, p, q, e)
+    } else {
+        swap_far(list, p, q, e)
+    }
+}
+
+// m blocks that were free stand from p on, in front of what stood there.
+pub fn insert(list: &mut [u16], home: &mut [u16], b: usize, n: usize, p: usize, m: usize)
+    requires { ⌜ (p ≤ n) × (n + m ≤ b) × (b ≤ 1024) × (b ≤ length (now list)) × (b ≤ length (now home)) × (homed (now home) (now list) b n ≡ true) ⌝ }
+    ensures { λ _. ⌜ (take (n + m) (now (list .exit)) ≡ take p (now (list .entry)) ++ (take m (drop p (now (list .exit))) ++ take (n - p) (drop p (now (list .entry))))) × (homed (now (home .exit)) (now (list .exit)) b (n + m) ≡ true) ⌝ }
+{
+    more(list, home, b, n, m);
+    if p < n {
+        swap_runs(list, p, n, n + m);
+        rehome(list, home, b, p, n + m);
+    }
+}
+
+// The blocks from p to q are free.
+pub fn release(list: &mut [u16], home: &mut [u16], b: usize, n: usize, p: usize, q: usize)
+    requires { ⌜ (p ≤ q) × (q ≤ n) × (n ≤ b) × (b ≤ 1024) × (b ≤ length (now list)) × (b ≤ length (now home)) × (homed (now home) (now list) b n ≡ true) ⌝ }
+    ensures { λ _. ⌜ (take (n - (q - p)) (now (list .exit)) ≡ take p (now (list .entry)) ++ take (n - q) (drop q (now (list .entry)))) × (homed (now (home .exit)) (now (list .exit)) b (n - (q - p)) ≡ true) ⌝ }
+{
+    if q < n {
+        swap_runs(list, p, q, n);
+        rehome(list, home, b, p, n - (q - p));
+    }
+}
+
+// The octets of src, written at place v of the octets that the first n entries spell.
+pub fn write_at(list: &[u16], blocks: &mut [u8], b: usize, n: usize, v: usize, src: &[u8])
+    requires { ⌜ (n ≤ b) × (n ≤ length (now list)) × (chainOk b (take n (now list)) ≡ true) × (64 * b ≤ length (now blocks)) × (v + length (now src) ≤ 64 * n) ⌝ }
+    ensures { λ _. ⌜ flat (now (blocks .exit)) (take n (now (list .entry))) ≡ put (flat (now (blocks .entry)) (take n (now (list .entry)))) v (now (src .entry)) ⌝ }
+{
+    let mut done: usize = 0;
+    while done < src.len() {
+        let at = v + done;
+        let i = at / 64;
+        let k = at % 64;
+        let x = list[i] as usize;
+        let mut part = 64 - k;
+        if src.len() - done < part {
+            part = src.len() - done;
+        }
+        copy(blocks, 64 * x + k, src, done, part);
+        done += part;
+    }
+}
+
+// out with m octets from index at replaced by those from place v of the octets that the first n entries spell.
+pub fn read_at(
+    list: &[u16],
+    blocks: &[u8],
+    b: usize,
+    n: usize,
+    v: usize,
+    out: &mut [u8],
+    at: usize,
+    m: usize,
+)
+    requires { ⌜ (n ≤ b) × (n ≤ length (now list)) × (chainOk b (take n (now list)) ≡ true) × (64 * b ≤ length (now blocks)) × (v + m ≤ 64 * n) × (at + m ≤ length (now out)) ⌝ }
+    ensures { λ _. ⌜ now (out .exit) ≡ put (now (out .entry)) at (take m (drop v (flat (now (blocks .entry)) (take n (now (list .entry)))))) ⌝ }
+{
+    let mut done: usize = 0;
+    while done < m {
+        let w = v + done;
+        let i = w / 64;
+        let k = w % 64;
+        let x = list[i] as usize;
+        let mut part = 64 - k;
+        if m - done < part {
+            part = m - done;
+        }
+        copy(out, at + done, blocks, 64 * x + k, part);
+        done += part;
+    }
+}
+
+// t free blocks are put in front of block a of the m in use, and then src is written at octet v of what they spell.
+pub fn grow(
+    list: &mut [u16],
+    home: &mut [u16],
+    blocks: &mut [u8],
+    b: usize,
+    m: usize,
+    a: usize,
+    t: usize,
+    v: usize,
+    src: &[u8],
+)
+    requires { ⌜ (a ≤ m) × (m + t ≤ b) × (b ≤ 1024) × (b ≤ length (now list)) × (b ≤ length (now home)) × (64 * b ≤ length (now blocks)) × (homed (now home) (now list) b m ≡ true) × (v + length (now src) ≤ 64 * (m + t)) ⌝ }
+    ensures { λ _. ⌜ homed (now (home .exit)) (now (list .exit)) b (m + t) ≡ true ⌝ }
+    ensures { λ _. ⌜ Grown (flat (now (blocks .entry)) (take m (now (list .entry)))) (flat (now (blocks .exit)) (take (m + t) (now (list .exit)))) a t v (now (src .entry)) ⌝ }
+{
+    insert(list, home, b, m, a, t);
+    write_at(list, blocks, b, m + t, v, src);
+}
