@@ -1,0 +1,213 @@
+-- What the tests say, and laws of sums.
+use Prim.Native.Nat.{ℕ, zero, suc, _+_, _*_, _-_, _/_, _≤_, _<_}
+use mathlib.Core.Path.{_≡_, refl, sym, ap, _∙_}
+use mathlib.Core.Bool.{Bool, true, false, cond, not, _&&_}
+use mathlib.Core.List.{List}
+use native.Mathlib.Numerals.{add-one}
+use native.Mathlib.Nat.{mul-le-mul-left, suc-mul}
+use native.Mathlib.Omega.{arith}
+use lib.Dec.{ltb, leb, eqb}
+use lib.ListN.{length, getD}
+use borrow.Author.Tests.{leb-true, le-leb, lt-leb, ltb-true, ltb-false, lt-ltb, le-ltb, eqb-true, eq-eqb, ne-eqb}
+use Rattle.octets.specs.Tests.{all}
+use Rattle.octets.proofs.Tests.{all-at, and-left, and-right, and-false}
+use Rattle.model.specs.Cost.{blocks}
+use Rattle.tables.specs.Tables.{links, blocksIn, reserve, cap, count, units, word, sum, placeOk, placesOk, costs, keysOk, settingsOk, linkOk, idle, linkAt, usedOf, excessOf, tablesOk}
+
+pub sum-none : (f : ℕ → ℕ) → sum f 0 ≡ 0
+unfolding sum
+sum-none f = refl
+
+pub sum-next : (f : ℕ → ℕ) (n : ℕ) → sum f (n + 1) ≡ sum f n + f n
+unfolding sum
+sum-next f n = rw add-one
+
+pub record Settings (w : List ℕ) : Type 0 where
+  pub some-link : 1 ≤ links w
+  pub few-links : links w ≤ 16
+  pub some-block : 1 ≤ blocksIn w
+  pub few-blocks : blocksIn w ≤ 1024
+  pub capped : cap w ≤ blocksIn w
+  pub reserved : reserve w ≤ cap w
+  pub cover : links w * reserve w ≤ blocksIn w
+
+pub settings : (w : List ℕ) → settingsOk w ≡ true → Settings w
+unfolding settingsOk
+settings w h₁ =
+    let h₂ = and-right (leb 1 (links w)) _ h₁ in
+    let h₃ = and-right (leb (links w) 16) _ h₂ in
+    let h₄ = and-right (leb 1 (blocksIn w)) _ h₃ in
+    let h₅ = and-right (leb (blocksIn w) 1024) _ h₄ in
+    let h₆ = and-right (leb (cap w) (blocksIn w)) _ h₅ in
+    record {
+      some-link = leb-true 1 (links w) (and-left (leb 1 (links w)) _ h₁);
+      few-links = leb-true (links w) 16 (and-left (leb (links w) 16) _ h₂);
+      some-block = leb-true 1 (blocksIn w) (and-left (leb 1 (blocksIn w)) _ h₃);
+      few-blocks = leb-true (blocksIn w) 1024 (and-left (leb (blocksIn w) 1024) _ h₄);
+      capped = leb-true (cap w) (blocksIn w) (and-left (leb (cap w) (blocksIn w)) _ h₅);
+      reserved = leb-true (reserve w) (cap w) (and-left (leb (reserve w) (cap w)) _ h₆);
+      cover = leb-true (links w * reserve w) (blocksIn w) (and-right (leb (reserve w) (cap w)) _ h₆);
+    }
+
+-- ---- places
+pub record Place (w : List ℕ) (p : ℕ) : Type 0 where
+  pub body : word w p 9 ≡ blocks (word w p 7)
+  pub top : word w p 10 ≡ blocks (word w p 8)
+
+pub place : (w : List ℕ) (p : ℕ) → placeOk w p ≡ true → Place w p
+unfolding placeOk
+place w p h = record {
+  body = eqb-true (word w p 9) (blocks (word w p 7)) (and-left (eqb (word w p 9) (blocks (word w p 7))) _ h);
+  top = eqb-true (word w p 10) (blocks (word w p 8)) (and-right (eqb (word w p 9) (blocks (word w p 7))) _ h);
+}
+
+pub place-of : (w : List ℕ) (p : ℕ) → Place w p → placeOk w p ≡ true
+unfolding placeOk
+place-of w p h = rw (eq-eqb (word w p 9) (blocks (word w p 7)) (h .body), eq-eqb (word w p 10) (blocks (word w p 8)) (h .top))
+
+pub place-body : (w : List ℕ) (p : ℕ) → (word w p 9 ≡ blocks (word w p 7) → ⊥) → placeOk w p ≡ false
+unfolding placeOk
+place-body w p e = rw (ne-eqb (word w p 9) (blocks (word w p 7)) e)
+
+pub place-top : (w : List ℕ) (p : ℕ) → word w p 9 ≡ blocks (word w p 7) → placeOk w p ≡ eqb (word w p 10) (blocks (word w p 8))
+unfolding placeOk
+place-top w p e = rw (eq-eqb (word w p 9) (blocks (word w p 7)) e)
+
+-- ---- links
+pub record Link (w : List ℕ) (l : ℕ) : Type 0 where
+  pub few : units w l ≤ 8
+  pub right : placesOk w (8 * l) (units w l) ≡ true
+  pub agrees : count w l ≡ costs w (8 * l) (units w l)
+  pub within : count w l ≤ cap w
+  pub apart : keysOk w (8 * l) (units w l) ≡ true
+
+pub link : (w : List ℕ) (l : ℕ) → linkOk w l ≡ true → Link w l
+unfolding linkOk
+link w l h₁ =
+    let h₂ = and-right (leb (units w l) 8) _ h₁ in
+    let h₃ = and-right (placesOk w (8 * l) (units w l)) _ h₂ in
+    let h₄ = and-right (eqb (count w l) (costs w (8 * l) (units w l))) _ h₃ in
+    record {
+      few = leb-true (units w l) 8 (and-left (leb (units w l) 8) _ h₁);
+      right = and-left (placesOk w (8 * l) (units w l)) _ h₂;
+      agrees = eqb-true (count w l) (costs w (8 * l) (units w l)) (and-left (eqb (count w l) (costs w (8 * l) (units w l))) _ h₃);
+      within = leb-true (count w l) (cap w) (and-left (leb (count w l) (cap w)) _ h₄);
+      apart = and-right (leb (count w l) (cap w)) _ h₄;
+    }
+
+pub link-of : (w : List ℕ) (l : ℕ) → Link w l → linkOk w l ≡ true
+unfolding linkOk
+link-of w l h = rw (le-leb (units w l) 8 (h .few), h .right, eq-eqb (count w l) (costs w (8 * l) (units w l)) (h .agrees), le-leb (count w l) (cap w) (h .within), h .apart)
+
+pub link-is : (w : List ℕ) (l : ℕ) → l < links w → linkAt w l ≡ linkOk w l
+unfolding linkAt
+link-is w l h = rw (lt-ltb l (links w) h)
+
+pub idle-is : (w : List ℕ) (l : ℕ) → links w ≤ l → linkAt w l ≡ idle w l
+unfolding linkAt
+idle-is w l h = rw (le-ltb l (links w) h)
+
+-- no count is above the cap
+pub count-low : (w : List ℕ) (l : ℕ) → linkAt w l ≡ true → count w l ≤ cap w
+unfolding idle
+count-low w l h = go (ltb l (links w)) refl
+  where
+    go : (t : Bool) → ltb l (links w) ≡ t → count w l ≤ cap w
+    go true e = link w l (sym (link-is w l (ltb-true l (links w) e)) ∙ h) .within
+    go false e =
+        let i : idle w l ≡ true = sym (idle-is w l (omega (arith, ltb-false l (links w) e))) ∙ h in
+        let z : count w l ≡ 0 = eqb-true (count w l) 0 (and-right (eqb (units w l) 0) _ i) in
+        omega arith
+
+pub counts-low : (w : List ℕ) → settingsOk w ≡ true → all (linkAt w) 16 ≡ true → (l : ℕ) → l < 16 → count w l ≤ 1024
+counts-low w s a l h =
+    let q = settings w s in
+    omega (arith, count-low w l (all-at (linkAt w) l 16 a h), q .capped, q .few-blocks)
+
+pub product : (n r : ℕ) → n ≤ 16 → r ≤ 1024 → n * r ≤ 16384
+product n r h k = let z : n * r ≤ n * 1024 = mul-le-mul-left n k in omega arith
+
+-- ---- each way that a link fails
+module _ (w : List ℕ) (l : ℕ) where
+  pub idle-units : links w ≤ l → (units w l ≡ 0 → ⊥) → linkAt w l ≡ false
+  unfolding idle
+  idle-units h e = idle-is w l h ∙ rw (ne-eqb (units w l) 0 e)
+
+  pub idle-count : links w ≤ l → units w l ≡ 0 → linkAt w l ≡ eqb (count w l) 0
+  unfolding idle
+  idle-count h e = idle-is w l h ∙ rw (eq-eqb (units w l) 0 e)
+
+  module _ (h : l < links w) where
+    pub many : 8 < units w l → linkAt w l ≡ false
+    unfolding linkOk
+    many e = link-is w l h ∙ rw (lt-leb (units w l) 8 e)
+
+    module _ (few : units w l ≤ 8) where
+      pub wrong : placesOk w (8 * l) (units w l) ≡ false → linkAt w l ≡ false
+      unfolding linkOk
+      wrong e = link-is w l h ∙ rw (le-leb (units w l) 8 few, e)
+
+      module _ (right : placesOk w (8 * l) (units w l) ≡ true) where
+        pub disagrees : (count w l ≡ costs w (8 * l) (units w l) → ⊥) → linkAt w l ≡ false
+        unfolding linkOk
+        disagrees e = link-is w l h ∙ rw (le-leb (units w l) 8 few, right, ne-eqb (count w l) (costs w (8 * l) (units w l)) e)
+
+        module _ (agrees : count w l ≡ costs w (8 * l) (units w l)) where
+          pub over : cap w < count w l → linkAt w l ≡ false
+          unfolding linkOk
+          over e = link-is w l h ∙ rw (le-leb (units w l) 8 few, right, eq-eqb (count w l) (costs w (8 * l) (units w l)) agrees, lt-leb (count w l) (cap w) e)
+
+          pub last : count w l ≤ cap w → linkAt w l ≡ keysOk w (8 * l) (units w l)
+          unfolding linkOk
+          last e = link-is w l h ∙ rw (le-leb (units w l) 8 few, right, eq-eqb (count w l) (costs w (8 * l) (units w l)) agrees, le-leb (count w l) (cap w) e)
+
+-- ---- and the tables
+module _ (w : List ℕ) where
+  pub short : length w < 1576 → tablesOk w ≡ false
+  unfolding tablesOk
+  short h = rw (lt-leb 1576 (length w) h)
+
+  module _ (long : 1576 ≤ length w) where
+    pub no-settings : settingsOk w ≡ false → tablesOk w ≡ false
+    unfolding tablesOk
+    no-settings e = rw (le-leb 1576 (length w) long, e)
+
+    module _ (set : settingsOk w ≡ true) where
+      pub no-links : all (linkAt w) 16 ≡ false → tablesOk w ≡ false
+      unfolding tablesOk
+      no-links e = rw (le-leb 1576 (length w) long, set, e)
+
+      pub common : all (linkAt w) 16 ≡ true → tablesOk w ≡ leb (excessOf w (links w)) (blocksIn w - links w * reserve w)
+      unfolding tablesOk
+      common e = rw (le-leb 1576 (length w) long, set, e)
+
+pub record Tables (w : List ℕ) : Type 0 where
+  pub long : 1576 ≤ length w
+  pub set : settingsOk w ≡ true
+  pub each : all (linkAt w) 16 ≡ true
+  pub rest : excessOf w (links w) ≤ blocksIn w - links w * reserve w
+
+pub tables : (w : List ℕ) → tablesOk w ≡ true → Tables w
+unfolding tablesOk
+tables w h₁ =
+    let h₂ = and-right (leb 1576 (length w)) _ h₁ in
+    let h₃ = and-right (settingsOk w) _ h₂ in
+    record {
+      long = leb-true 1576 (length w) (and-left (leb 1576 (length w)) _ h₁);
+      set = and-left (settingsOk w) _ h₂;
+      each = and-left (all (linkAt w) 16) _ h₃;
+      rest = leb-true (excessOf w (links w)) (blocksIn w - links w * reserve w) (and-right (all (linkAt w) 16) _ h₃);
+    }
+
+pub tables-of : (w : List ℕ) → Tables w → tablesOk w ≡ true
+unfolding tablesOk
+tables-of w h = rw (le-leb 1576 (length w) (h .long), h .set, h .each, le-leb (excessOf w (links w)) (blocksIn w - links w * reserve w) (h .rest))
+
+-- the blocks used are no more than there are
+pub above : (w : List ℕ) (n : ℕ) → usedOf w n ≤ n * reserve w + excessOf w n
+unfolding sum
+above w zero = omega arith
+above w (suc n) = let z : suc n * reserve w ≡ n * reserve w + reserve w = suc-mul n (reserve w) in omega (arith, above w n)
+
+pub used-fits : (w : List ℕ) → Tables w → usedOf w (links w) ≤ blocksIn w
+used-fits w h = let q = settings w (h .set) in omega (arith, above w (links w), h .rest, q .cover)

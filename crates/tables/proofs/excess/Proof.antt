@@ -1,0 +1,96 @@
+use Prim.Native.Nat.{ℕ, _+_, _*_, _-_, _/_, _≤_, _<_}
+use mathlib.Core.Path.{_≡_, refl, sym, ap, _∙_}
+use mathlib.Core.Bool.{Bool, true, false, not}
+use mathlib.Core.Logic.{⊎-elim}
+use mathlib.Core.List.{List}
+use native.Mathlib.Omega.{arith}
+use borrow.Author.Needs.{needs}
+use borrow.Author.Tests.{ne-eqb, eq-eqb, not-true, not-false, le-leb, lt-leb, lt-ltb, le-ltb}
+use lib.ListN.{length, getD}
+use lib.Dec.{leb, ltb, eqb}
+use denote.Ref.{now}
+use Rattle.octets.specs.Tests.{all}
+use Rattle.octets.proofs.Tests.{all-none, all-more, all-fails, all-at, and-false}
+use Rattle.tables.specs.Tables.{links, blocksIn, reserve, cap, count, units, word, sum, placeCost, costs, wordEq, keyEq, keyNew, keysOk, settingsOk, linkOk, idle, linkAt, usedOf, excessOf, tablesOk}
+use Rattle.tables.proofs.Laws.{sum-none, sum-next, settings, link, link-of, link-is, idle-is, counts-low, product}
+use Rattle.tables.proofs.excess.Statement.{statement}
+use Rattle.tables.proofs.excess.Tie as tie
+use Rattle.tables.proofs.excess.Reads as reads
+use Rattle.tables.proofs.excess.Lts as lts
+
+abbrev Inv-loop : tie.InvT-loop
+Inv-loop words n r sum₀ l₀ sum l = (l ≤ n) × (sum ≡ excessOf words l) × (sum ≤ 1024 * l)
+
+abbrev μ-loop : tie.MeasureT-loop
+μ-loop words n r sum₀ l₀ sum l = n - l
+
+-- src/lib.rt:172:13
+shared-slice-read-r : tie.Need-shared-slice-read-r Inv-loop μ-loop
+shared-slice-read-r c = omega arith
+
+-- src/lib.rt:175:5
+loop-holds : tie.Need-loop-holds Inv-loop μ-loop
+loop-holds c = (omega arith, sym (sum-none (λ l. count (now (c .before .args .words)) l - reserve (now (c .before .args .words)))), omega arith)
+
+-- src/lib.rt:176:23
+add-k : tie.Need-add-k Inv-loop μ-loop
+add-k c = omega arith
+
+-- src/lib.rt:176:17
+mul-k : tie.Need-mul-k Inv-loop μ-loop
+mul-k c = omega arith
+
+-- src/lib.rt:176:17
+shared-slice-read-k : tie.Need-shared-slice-read-k Inv-loop μ-loop
+shared-slice-read-k c = omega arith
+
+-- src/lib.rt:178:20
+sub-sum : tie.Need-sub-sum Inv-loop μ-loop
+sub-sum c = omega arith
+
+-- src/lib.rt:178:13
+add-sum : tie.Need-add-sum Inv-loop μ-loop
+add-sum c =
+    let w = now (c .before .before .before .before .before .args .words) in
+    omega (arith, counts-low w (c .before .before .before .before .before .pre .2) (c .before .before .before .before .before .pre .3) (c .before .before .before .loop .l) (omega arith))
+
+-- src/lib.rt:180:9
+add-l : tie.Need-add-l Inv-loop μ-loop
+add-l c = omega arith
+
+-- src/lib.rt:175:5
+loop-less : tie.Need-loop-less Inv-loop μ-loop
+loop-less c = omega arith
+
+-- src/lib.rt:175:5
+loop-again : tie.Need-loop-again Inv-loop μ-loop
+loop-again c =
+    let w = now (c .before .before .before .before .before .args .words) in
+    let l = c .before .before .before .loop .l in
+    let n : excessOf w (l + 1) ≡ excessOf w l + (count w l - reserve w) = sum-next (λ l. count w l - reserve w) l in
+    let k = counts-low w (c .before .before .before .before .before .pre .2) (c .before .before .before .before .before .pre .3) l (omega arith) in
+    ⊎-elim (λ z. omega (arith, n, k, z)) (λ z. omega (arith, n, k, z)) (c .if1 .came)
+
+-- src/lib.rt:168:1
+returns : tie.Need-returns Inv-loop μ-loop
+returns c =
+    let e : c .before .loop .l ≡ c .before .before .before .args .n = omega arith in
+    c .before .loop .inv .1 ∙ ap (excessOf (now (c .before .before .before .args .words))) e
+
+pub excess-spec : {M : Type 1} → statement M
+excess-spec =
+    tie.close
+    (tie.spec
+    Inv-loop
+    μ-loop
+    shared-slice-read-r
+    loop-holds
+    add-k
+    mul-k
+    shared-slice-read-k
+    sub-sum
+    add-sum
+    add-l
+    loop-less
+    loop-again
+    returns)

@@ -1,0 +1,225 @@
+// The tables of a store, and the test of them.
+ghost use mathlib.Core.Path.{_≡_};
+ghost use mathlib.Core.Bool.{true};
+ghost use Prim.Native.Nat.{_+_, _*_, _-_, _≤_, _<_};
+ghost use lib.ListN.{length};
+ghost use Rattle.tables.specs.Tables.{links, count, word, placeOk, placesOk, placeCost, costs, keyEq, keyNew, keysOk, settingsOk, linkAt, usedOf, excessOf, tablesOk};
+ghost use Rattle.octets.specs.Tests.{all};
+use model::blocks_of;
+
+pub fn settings_ok(words: &[u64]) -> bool
+    requires { ⌜ 1576 ≤ length (now words) ⌝ }
+    ensures { λ r. ⌜ r ≡ settingsOk (now (words .entry)) ⌝ }
+{
+    let n = words[1];
+    let b = words[2];
+    let r = words[3];
+    let c = words[4];
+    if n < 1 {
+        return false;
+    }
+    if 16 < n {
+        return false;
+    }
+    if b < 1 {
+        return false;
+    }
+    if 1024 < b {
+        return false;
+    }
+    if b < c {
+        return false;
+    }
+    if c < r {
+        return false;
+    }
+    n * r <= b
+}
+
+// Whether two places have one key.
+pub fn key_eq(words: &[u64], p: usize, q: usize) -> bool
+    requires { ⌜ (p < 128) × (q < 128) × (1576 ≤ length (now words)) ⌝ }
+    ensures { λ r. ⌜ r ≡ keyEq (now (words .entry)) p q ⌝ }
+{
+    let mut k: usize = 0;
+    while k < 6 {
+        if words[40 + 12 * p + k] != words[40 + 12 * q + k] {
+            return false;
+        }
+        k += 1;
+    }
+    true
+}
+
+// Whether the key of the i-th place from p on differs from those before it.
+pub fn key_new(words: &[u64], p: usize, i: usize) -> bool
+    requires { ⌜ (p + i < 128) × (1576 ≤ length (now words)) ⌝ }
+    ensures { λ r. ⌜ r ≡ keyNew (now (words .entry)) p i ⌝ }
+{
+    let mut j: usize = 0;
+    while j < i {
+        if key_eq(words, p + i, p + j) {
+            return false;
+        }
+        j += 1;
+    }
+    true
+}
+
+// Whether no key stands twice among the u places from p on.
+pub fn keys_ok(words: &[u64], p: usize, u: usize) -> bool
+    requires { ⌜ (p + u ≤ 128) × (1576 ≤ length (now words)) ⌝ }
+    ensures { λ r. ⌜ r ≡ keysOk (now (words .entry)) p u ⌝ }
+{
+    let mut i: usize = 0;
+    while i < u {
+        if !key_new(words, p, i) {
+            return false;
+        }
+        i += 1;
+    }
+    true
+}
+
+// Whether the block counts of place p are what its parts cost.
+pub fn place_ok(words: &[u64], p: usize) -> bool
+    requires { ⌜ (p < 128) × (1576 ≤ length (now words)) ⌝ }
+    ensures { λ r. ⌜ r ≡ placeOk (now (words .entry)) p ⌝ }
+{
+    let at = 40 + 12 * p;
+    if words[at + 9] != blocks_of(words[at + 7]) {
+        return false;
+    }
+    words[at + 10] == blocks_of(words[at + 8])
+}
+
+// The same of u places from p on.
+pub fn places_ok(words: &[u64], p: usize, u: usize) -> bool
+    requires { ⌜ (p + u ≤ 128) × (1576 ≤ length (now words)) ⌝ }
+    ensures { λ r. ⌜ r ≡ placesOk (now (words .entry)) p u ⌝ }
+{
+    let mut j: usize = 0;
+    while j < u {
+        if !place_ok(words, p + j) {
+            return false;
+        }
+        j += 1;
+    }
+    true
+}
+
+// The blocks of place p.
+pub fn place_cost(words: &[u64], p: usize) -> u64
+    requires { ⌜ (p < 128) × (1576 ≤ length (now words)) × (placeOk (now words) p ≡ true) ⌝ }
+    ensures { λ r. ⌜ (r ≡ placeCost (now (words .entry)) p) × (r ≤ 576460752303423490) ⌝ }
+{
+    words[40 + 12 * p + 9] + words[40 + 12 * p + 10]
+}
+
+// The blocks of u places from p on.
+pub fn cost(words: &[u64], p: usize, u: usize) -> u64
+    requires { ⌜ (p + u ≤ 128) × (u ≤ 8) × (1576 ≤ length (now words)) × (placesOk (now words) p u ≡ true) ⌝ }
+    ensures { λ r. ⌜ r ≡ costs (now (words .entry)) p u ⌝ }
+{
+    let mut sum: u64 = 0;
+    let mut j: usize = 0;
+    while j < u {
+        sum += place_cost(words, p + j);
+        j += 1;
+    }
+    sum
+}
+
+// Whether link l is sound, or idle where there is no such link.
+pub fn link_ok(words: &[u64], l: usize) -> bool
+    requires { ⌜ (l < 16) × (1576 ≤ length (now words)) ⌝ }
+    ensures { λ r. ⌜ r ≡ linkAt (now (words .entry)) l ⌝ }
+{
+    let n = words[1];
+    let u = words[24 + l];
+    let k = words[8 + l];
+    if n <= l as u64 {
+        if u != 0 {
+            return false;
+        }
+        return k == 0;
+    }
+    if 8 < u {
+        return false;
+    }
+    let v = u as usize;
+    if !places_ok(words, 8 * l, v) {
+        return false;
+    }
+    if k != cost(words, 8 * l, v) {
+        return false;
+    }
+    if words[4] < k {
+        return false;
+    }
+    keys_ok(words, 8 * l, v)
+}
+
+pub fn links_ok(words: &[u64]) -> bool
+    requires { ⌜ 1576 ≤ length (now words) ⌝ }
+    ensures { λ r. ⌜ r ≡ all (linkAt (now (words .entry))) 16 ⌝ }
+{
+    let mut l: usize = 0;
+    while l < 16 {
+        if !link_ok(words, l) {
+            return false;
+        }
+        l += 1;
+    }
+    true
+}
+
+// The blocks of the first n links, by the counts.
+pub fn used(words: &[u64], n: usize) -> usize
+    requires { ⌜ (n ≤ 16) × (1576 ≤ length (now words)) × (settingsOk (now words) ≡ true) × (all (linkAt (now words)) 16 ≡ true) ⌝ }
+    ensures { λ r. ⌜ r ≡ usedOf (now (words .entry)) n ⌝ }
+{
+    let mut sum: usize = 0;
+    let mut l: usize = 0;
+    while l < n {
+        sum += words[8 + l] as usize;
+        l += 1;
+    }
+    sum
+}
+
+// What the first n links use above their reserve.
+pub fn excess(words: &[u64], n: usize) -> u64
+    requires { ⌜ (n ≤ 16) × (1576 ≤ length (now words)) × (settingsOk (now words) ≡ true) × (all (linkAt (now words)) 16 ≡ true) ⌝ }
+    ensures { λ r. ⌜ r ≡ excessOf (now (words .entry)) n ⌝ }
+{
+    let r = words[3];
+    let mut sum: u64 = 0;
+    let mut l: usize = 0;
+    while l < n {
+        let k = words[8 + l];
+        if r < k {
+            sum += k - r;
+        }
+        l += 1;
+    }
+    sum
+}
+
+pub fn tables_ok(words: &[u64]) -> bool
+    ensures { λ r. ⌜ r ≡ tablesOk (now (words .entry)) ⌝ }
+{
+    if words.len() < 1576 {
+        return false;
+    }
+    if !settings_ok(words) {
+        return false;
+    }
+    if !links_ok(words) {
+        return false;
+    }
+    let n = words[1];
+    let r = words[3];
+    let e = excess(words, n as usize);
+    e <= words[2] - n * r
+}
