@@ -4,3 +4,4 @@ pub mod Swap
 pub mod Home
 pub mod Moves
 pub mod Spelt
+pub mod Spliced

@@ -1,11 +1,10 @@
 -- A list of block numbers, and the octets that it spells.
-use Prim.Native.Nat.{ℕ, zero, suc, _+_, _*_, _-_}
+use Prim.Native.Nat.{ℕ, _+_, _*_, _-_, _≤_, min}
 use mathlib.Core.Path.{_≡_}
 use mathlib.Core.Bool.{Bool, true, not, _&&_}
 use mathlib.Core.List.{List, [], _∷_, _++_}
 use lib.Dec.{ltb, eqb}
 use lib.ListN.{length, getD, take, drop}
-use Rattle.octets.specs.Emit.{put}
 use Rattle.octets.specs.Tests.{all}
 
 -- x stands nowhere in the list
@@ -43,8 +42,16 @@ homed home list b n = all (homeAt home list b) n
 abbrev pub inUseAt : List ℕ → List ℕ → ℕ → ℕ → Bool
 inUseAt home list n x = ltb (getD home x 0) n && eqb (getD list (getD home x 0) 0) x
 
--- f' is f with t blocks put in front of block a, and then src written at octet v
-pub record Grown (f f' : List ℕ) (a t v : ℕ) (src : List ℕ) : Type 0 where
+-- the k entries from entry a on have become n: the first of them stay, and the others behind them too
+pub record Resized (list list' : List ℕ) (m a k n : ℕ) : Type 0 where
   pub new : List ℕ
-  pub long : length new ≡ 64 * t
-  pub spells : f' ≡ put (take (64 * a) f ++ (new ++ drop (64 * a) f)) v src
+  pub long : length new ≡ n - k
+  pub entries : take (m + n - k) list' ≡ take (a + min k n) list ++ (new ++ take (m - (a + k)) (drop (a + k) list))
+
+-- f' is f with the k blocks from block a on made n, and src written from their octet d on: what stands before and behind is
+-- as it was
+pub record Spliced (f f' : List ℕ) (a k n d : ℕ) (src : List ℕ) : Type 0 where
+  pub size : length f' + 64 * k ≡ length f + 64 * n
+  pub front : (i : ℕ) → i ≤ 64 * a + d → take i f' ≡ take i f
+  pub own : take (d + length src) (drop (64 * a) f') ≡ take d (drop (64 * a) f) ++ src
+  pub behind : (o : ℕ) → 64 * (a + k) ≤ o → drop (o + 64 * n - 64 * k) f' ≡ drop o f

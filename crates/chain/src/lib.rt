@@ -5,7 +5,7 @@ ghost use mathlib.Core.List.{_++_};
 ghost use Prim.Native.Nat.{_+_, _*_, _-_, _≤_, _<_};
 ghost use lib.ListN.{length, getD, set, take, drop};
 ghost use Rattle.octets.specs.Emit.{put};
-ghost use Rattle.chain.specs.Chain.{chainOk, homed, inUseAt, swapped, flat, Grown};
+ghost use Rattle.chain.specs.Chain.{chainOk, homed, inUseAt, swapped, flat, Resized, Spliced};
 use octets::emit::copy;
 
 // dst with n entries from index at replaced by src's from index from on.
@@ -200,22 +200,37 @@ pub fn read_at(
     }
 }
 
-// t free blocks are put in front of block a of the m in use, and then src is written at octet v of what they spell.
-pub fn grow(
+// The k blocks from entry a on become n: free ones are put behind them, or the last of them are free.
+pub fn resize(list: &mut [u16], home: &mut [u16], b: usize, m: usize, a: usize, k: usize, n: usize)
+    requires { ⌜ (a + k ≤ m) × (m + n ≤ b + k) × (m ≤ b) × (b ≤ 1024) × (b ≤ length (now list)) × (b ≤ length (now home)) × (homed (now home) (now list) b m ≡ true) ⌝ }
+    ensures { λ _. ⌜ homed (now (home .exit)) (now (list .exit)) b (m + n - k) ≡ true ⌝ }
+    ensures { λ _. ⌜ Resized (now (list .entry)) (now (list .exit)) m a k n ⌝ }
+{
+    if k <= n {
+        insert(list, home, b, m, a + k, n - k)
+    } else {
+        release(list, home, b, m, a + n, a + k)
+    }
+}
+
+// The k blocks from entry a on become n, and the octets of src are written from their octet d on.
+pub fn splice(
     list: &mut [u16],
     home: &mut [u16],
     blocks: &mut [u8],
     b: usize,
     m: usize,
     a: usize,
-    t: usize,
-    v: usize,
+    k: usize,
+    n: usize,
+    d: usize,
     src: &[u8],
 )
-    requires { ⌜ (a ≤ m) × (m + t ≤ b) × (b ≤ 1024) × (b ≤ length (now list)) × (b ≤ length (now home)) × (64 * b ≤ length (now blocks)) × (homed (now home) (now list) b m ≡ true) × (v + length (now src) ≤ 64 * (m + t)) ⌝ }
-    ensures { λ _. ⌜ homed (now (home .exit)) (now (list .exit)) b (m + t) ≡ true ⌝ }
-    ensures { λ _. ⌜ Grown (flat (now (blocks .entry)) (take m (now (list .entry)))) (flat (now (blocks .exit)) (take (m + t) (now (list .exit)))) a t v (now (src .entry)) ⌝ }
+    requires { ⌜ (a + k ≤ m) × (m + n ≤ b + k) × (m ≤ b) × (b ≤ 1024) × (b ≤ length (now list)) × (b ≤ length (now home)) × (homed (now home) (now list) b m ≡ true) ⌝ }
+    requires { ⌜ (64 * b ≤ length (now blocks)) × (d ≤ 64 * k) × (d + length (now src) ≤ 64 * n) ⌝ }
+    ensures { λ _. ⌜ homed (now (home .exit)) (now (list .exit)) b (m + n - k) ≡ true ⌝ }
+    ensures { λ _. ⌜ Spliced (flat (now (blocks .entry)) (take m (now (list .entry)))) (flat (now (blocks .exit)) (take (m + n - k) (now (list .exit)))) a k n d (now (src .entry)) ⌝ }
 {
-    insert(list, home, b, m, a, t);
-    write_at(list, blocks, b, m + t, v, src);
+    resize(list, home, b, m, a, k, n);
+    write_at(list, blocks, b, m + n - k, 64 * a + d, src);
 }
