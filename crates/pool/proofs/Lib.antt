@@ -1,0 +1,5 @@
+pub mod Tab
+pub mod Good
+pub mod Change
+pub mod Near
+pub mod Parts

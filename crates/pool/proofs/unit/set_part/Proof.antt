@@ -1,0 +1,114 @@
+use lib.ListN.{length-set}
+use native.Mathlib.Omega.{arith}
+use borrow.Author.Needs.{needs}
+use Rattle.pool.proofs.unit.set_part.Statement.{statement}
+use Rattle.pool.proofs.unit.set_part.Tie as tie
+
+mul-at : tie.Need-mul-at
+mul-at c = search needs
+
+add-at : tie.Need-add-at
+add-at c = search needs
+
+mul-at-2 : tie.Need-mul-at-2
+mul-at-2 c = search needs
+
+add-at-2 : tie.Need-add-at-2
+add-at-2 c = search needs
+
+add-k : tie.Need-add-k
+add-k c = search needs
+
+add-k-2 : tie.Need-add-k-2
+add-k-2 c = search needs
+
+mul-k : tie.Need-mul-k
+mul-k c = search needs
+
+slice-read-k : tie.Need-slice-read-k
+slice-read-k c = search needs
+
+add-c : tie.Need-add-c
+add-c c = search needs
+
+mul-c : tie.Need-mul-c
+mul-c c = search needs
+
+slice-read-c : tie.Need-slice-read-c
+slice-read-c c = search needs
+
+add-words : tie.Need-add-words
+add-words c = search needs
+
+add-words-2 : tie.Need-add-words-2
+add-words-2 c = search needs
+
+mul-words : tie.Need-mul-words
+mul-words c = search needs
+
+slice-write-words : tie.Need-slice-write-words
+slice-write-words c = search needs
+
+add-words-3 : tie.Need-add-words-3
+add-words-3 c = search needs
+
+add-words-4 : tie.Need-add-words-4
+add-words-4 c = search needs
+
+mul-words-2 : tie.Need-mul-words-2
+mul-words-2 c = search needs
+
+slice-write-words-2 : tie.Need-slice-write-words-2
+slice-write-words-2 c = simp length-set (omega arith)
+
+add-words-5 : tie.Need-add-words-5
+add-words-5 c = search needs
+
+sub-words : tie.Need-sub-words
+sub-words c = search needs
+
+add-words-6 : tie.Need-add-words-6
+add-words-6 c = search needs
+
+mul-words-3 : tie.Need-mul-words-3
+mul-words-3 c = search needs
+
+slice-write-words-3 : tie.Need-slice-write-words-3
+slice-write-words-3 c = simp length-set (omega arith)
+
+same-length : tie.Need-same-length
+same-length c = search needs
+
+returns : tie.Need-returns
+returns c = search needs
+
+pub set-part-spec : {M : Type 1} → statement M
+set-part-spec =
+    tie.close
+    (tie.spec
+    mul-at
+    add-at
+    mul-at-2
+    add-at-2
+    add-k
+    add-k-2
+    mul-k
+    slice-read-k
+    add-c
+    mul-c
+    slice-read-c
+    add-words
+    add-words-2
+    mul-words
+    slice-write-words
+    add-words-3
+    add-words-4
+    mul-words-2
+    slice-write-words-2
+    add-words-5
+    sub-words
+    add-words-6
+    mul-words-3
+    slice-write-words-3
+    same-length
+    returns)

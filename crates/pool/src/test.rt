@@ -1,0 +1,28 @@
+// The soundness test.
+ghost use mathlib.Core.Path.{_≡_};
+ghost use Rattle.pool.specs.View.{sound};
+
+// Whether a store is sound, whatever is lent, but for the kind's own test of its units.
+pub fn store_ok(words: &[u64], times: &[f64], list: &[u16], home: &[u16], blocks: &[u8]) -> bool
+    ensures { λ r. ⌜ r ≡ sound (now (words .entry)) (now (times .entry)) (now (list .entry)) (now (home .entry)) (now (blocks .entry)) ⌝ }
+{
+    if !tables::tables_ok(words) {
+        return false;
+    }
+    if times.len() < 128 {
+        return false;
+    }
+    let b = words[2] as usize;
+    if list.len() < b {
+        return false;
+    }
+    if home.len() < b {
+        return false;
+    }
+    if blocks.len() < 64 * b {
+        return false;
+    }
+    let n = words[1] as usize;
+    let m = tables::used(words, n);
+    chain::homed_ok(list, home, b, m)
+}

@@ -1,0 +1,72 @@
+// Operations on the units of a sound store.
+ghost use mathlib.Core.Path.{_≡_};
+ghost use mathlib.Core.Bool.{true};
+ghost use Prim.Native.Nat.{_+_, _*_, _-_, _≤_, _<_};
+ghost use lib.ListN.{length, getD};
+ghost use Rattle.model.specs.Cost.{blocks as blocksFor};
+ghost use Rattle.tables.specs.Tables.{links, units, word, count, tablesOk};
+ghost use Rattle.pool.specs.View.{sound, pend, startOf, partAt, Room, SameSettings, spliced, spliceWords};
+
+// The block from which on place j of link l stands.
+pub fn start_of(words: &[u64], l: usize, j: usize) -> usize
+    requires { ⌜ (tablesOk (now words) ≡ true) × (l < links (now words)) × (j ≤ units (now words) l) ⌝ }
+    ensures { λ r. ⌜ (r ≡ startOf (now (words .entry)) l j) × (r ≤ 1024) ⌝ }
+{
+    tables::used(words, l) + tables::cost(words, 8 * l, j) as usize
+}
+
+// The block from which on a part of place p stands, whose blocks stand from s on.
+fn part_start(words: &[u64], p: usize, part: usize, s: usize) -> usize
+    requires { ⌜ (p < 128) × (1576 ≤ length (now words)) × (s ≤ 1024) × (word (now words) p 9 ≤ 1024) ⌝ }
+    ensures { λ r. ⌜ r ≡ s + partAt (now (words .entry)) p part ⌝ }
+{
+    if part == 0 {
+        return s;
+    }
+    s + words[40 + 12 * p + 9] as usize
+}
+
+// A part of place j of link l is x octets long, and n blocks.
+fn set_part(words: &mut [u64], l: usize, j: usize, part: usize, x: u64, n: u64)
+    requires { ⌜ (l < 16) × (j < 8) × (part < 2) × (1576 ≤ length (now words)) × (word (now words) (8 * l + j) (9 + part) ≤ count (now words) l) × (count (now words) l + n ≤ 65536) ⌝ }
+    ensures { λ _. ⌜ now (words .exit) ≡ spliceWords (now (words .entry)) l j part x n ⌝ }
+{
+    let at = 40 + 12 * (8 * l + j);
+    let k = words[at + (9 + part)];
+    let c = words[8 + l];
+    words[at + (7 + part)] = x;
+    words[at + (9 + part)] = n;
+    words[8 + l] = c + n - k;
+}
+
+// A part of unit j of link l from its octet d on becomes src.
+pub fn splice(
+    words: &mut [u64],
+    times: &[f64],
+    list: &mut [u16],
+    home: &mut [u16],
+    blocks: &mut [u8],
+    l: usize,
+    j: usize,
+    part: usize,
+    d: usize,
+    src: &[u8],
+)
+    requires { ⌜ sound (now words) (now times) (now list) (now home) (now blocks) ≡ true ⌝ }
+    requires { ⌜ (l < links (now words)) × (j < units (now words) l) × (part < 2) × (d ≤ word (now words) (8 * l + j) (7 + part)) × (length (now src) ≤ 65535) ⌝ }
+    requires { ⌜ Room (now words) l (word (now words) (8 * l + j) (9 + part)) (blocksFor (d + length (now src))) ⌝ }
+    ensures { λ _. ⌜ sound (now (words .exit)) (now (times .entry)) (now (list .exit)) (now (home .exit)) (now (blocks .exit)) ≡ true ⌝ }
+    ensures { λ _. ⌜ pend (now (words .exit)) (now (times .entry)) (now (list .exit)) (now (blocks .exit)) ≡ spliced (pend (now (words .entry)) (now (times .entry)) (now (list .entry)) (now (blocks .entry))) l j part d (now (src .entry)) ⌝ }
+    ensures { λ _. ⌜ SameSettings (now (words .entry)) (now (words .exit)) ⌝ }
+{
+    let b = words[2] as usize;
+    let links = words[1] as usize;
+    let m = tables::used(words, links);
+    let s = start_of(words, l, j);
+    let a = part_start(words, 8 * l + j, part, s);
+    let k = words[40 + 12 * (8 * l + j) + (9 + part)] as usize;
+    let x = d + src.len();
+    let n = (x + 63) / 64;
+    chain::splice(list, home, blocks, b, m, a, k, n, d, src);
+    set_part(words, l, j, part, x as u64, n as u64);
+}
