@@ -3,3 +3,4 @@ pub mod Good
 pub mod Change
 pub mod Near
 pub mod Parts
+pub mod Dropped

@@ -24,7 +24,7 @@ use Rattle.pool.proofs.Change.{SamePlace, place-same, cost-same, costs-
 use Rattle.pool.proofs.Near.{two, own, inside, link-inside, Near, near, Sizes, sizes}
 
 -- from equal fronts, equal parts
-part-of : (x y : List ℕ) (o n : ℕ) → take (o + n) x ≡ take (o + n) y → take n (drop o x) ≡ take n (drop o y)
+pub part-of : (x y : List ℕ) (o n : ℕ) → take (o + n) x ≡ take (o + n) y → take n (drop o x) ≡ take n (drop o y)
 part-of x y o n e = sym (take-drop o n x) ∙ ap (drop o) e ∙ take-drop o n y
 
 module _ (w : List ℕ) (tm : List Float) (l j part x n : ℕ) (g : Tables w) (hl : l < links w) (hj : j < units w l) (h2 : part < 2) where

@@ -10,6 +10,7 @@ use Rattle.clock.specs.Time.{freshT}
 use Rattle.octets.specs.Tests.{all}
 use Rattle.model.specs.Cost.{blocks}
 use Rattle.chain.specs.Chain.{homed, flat}
+use Rattle.shift.specs.Shift.{shifted}
 use Rattle.tables.specs.Tables.{links, blocksIn, reserve, cap, count, units, word, placeCost, costs, usedOf, excessOf, tablesOk}
 
 -- a pending unit: six words of key, a note, the time of its last piece, and two parts
@@ -142,3 +143,10 @@ partAt w p part = cond (eqb part 0) 0 (word w p 9)
 abbrev pub spliceWords : List ℕ → ℕ → ℕ → ℕ → ℕ → ℕ → List ℕ
 spliceWords w l j part x n =
     set (set (set w (40 + 12 * (8 * l + j) + (7 + part)) x) (40 + 12 * (8 * l + j) + (9 + part)) n) (8 + l) (count w l + n - word w (8 * l + j) (9 + part))
+
+-- the words and the times without place j of link l: those behind it have come down
+abbrev pub lessWords : List ℕ → ℕ → ℕ → List ℕ
+lessWords w l j = set (set (shifted w (40 + 12 * (8 * l + j)) 12 (40 + 12 * (8 * l + units w l) - 12)) (24 + l) (units w l - 1)) (8 + l) (count w l - placeCost w (8 * l + j))
+
+abbrev pub lessTimes : List ℕ → List Float → ℕ → ℕ → List Float
+lessTimes w tm l j = shifted tm (8 * l + j) 1 (8 * l + units w l - 1)

@@ -4,8 +4,8 @@ ghost use mathlib.Core.Bool.{true};
 ghost use Prim.Native.Nat.{_+_, _*_, _-_, _≤_, _<_};
 ghost use lib.ListN.{length, getD};
 ghost use Rattle.model.specs.Cost.{blocks as blocksFor};
-ghost use Rattle.tables.specs.Tables.{links, units, word, count, tablesOk};
-ghost use Rattle.pool.specs.View.{sound, pend, startOf, partAt, Room, SameSettings, spliced, spliceWords};
+ghost use Rattle.tables.specs.Tables.{links, units, word, count, placeCost, tablesOk};
+ghost use Rattle.pool.specs.View.{sound, pend, startOf, partAt, Room, SameSettings, spliced, spliceWords, removed, lessWords, lessTimes};
 
 // The block from which on place j of link l stands.
 pub fn start_of(words: &[u64], l: usize, j: usize) -> usize
@@ -69,4 +69,43 @@ pub fn splice(
     let n = (x + 63) / 64;
     chain::splice(list, home, blocks, b, m, a, k, n, d, src);
     set_part(words, l, j, part, x as u64, n as u64);
+}
+
+// Place j of link l, of k blocks, is gone from the tables.
+fn take_place(words: &mut [u64], times: &mut [f64], l: usize, j: usize, k: u64)
+    requires { ⌜ (l < 16) × (j < units (now words) l) × (units (now words) l ≤ 8) × (1576 ≤ length (now words)) × (128 ≤ length (now times)) × (k ≡ placeCost (now words) (8 * l + j)) × (k ≤ count (now words) l) ⌝ }
+    ensures { λ _. ⌜ (now (words .exit) ≡ lessWords (now (words .entry)) l j) × (now (times .exit) ≡ lessTimes (now (words .entry)) (now (times .entry)) l j) ⌝ }
+{
+    let u = words[24 + l] as usize;
+    let c = words[8 + l];
+    shift::down64(words, 40 + 12 * (8 * l + j), 12, 40 + 12 * (8 * l + u));
+    shift::downf(times, 8 * l + j, 1, 8 * l + u);
+    words[24 + l] = (u - 1) as u64;
+    words[8 + l] = c - k;
+}
+
+// Unit j of link l is taken out.
+pub fn remove(
+    words: &mut [u64],
+    times: &mut [f64],
+    list: &mut [u16],
+    home: &mut [u16],
+    blocks: &[u8],
+    l: usize,
+    j: usize,
+)
+    requires { ⌜ sound (now words) (now times) (now list) (now home) (now blocks) ≡ true ⌝ }
+    requires { ⌜ (l < links (now words)) × (j < units (now words) l) ⌝ }
+    ensures { λ _. ⌜ sound (now (words .exit)) (now (times .exit)) (now (list .exit)) (now (home .exit)) (now (blocks .entry)) ≡ true ⌝ }
+    ensures { λ _. ⌜ pend (now (words .exit)) (now (times .exit)) (now (list .exit)) (now (blocks .entry)) ≡ removed (pend (now (words .entry)) (now (times .entry)) (now (list .entry)) (now (blocks .entry))) l j ⌝ }
+    ensures { λ _. ⌜ SameSettings (now (words .entry)) (now (words .exit)) ⌝ }
+    ensures { λ _. ⌜ units (now (words .exit)) l ≡ units (now (words .entry)) l - 1 ⌝ }
+{
+    let b = words[2] as usize;
+    let links = words[1] as usize;
+    let m = tables::used(words, links);
+    let s = start_of(words, l, j);
+    let k = tables::place_cost(words, 8 * l + j);
+    chain::release(list, home, b, m, s, s + k as usize);
+    take_place(words, times, l, j, k);
 }

@@ -1,0 +1,142 @@
+use Prim.Native.Nat.{ℕ, _+_, _-_}
+use mathlib.Core.Path.{ap, ap₂, _∙_}
+use mathlib.Core.List.{List}
+use native.Mathlib.Omega.{arith}
+use lib.ListN.{set, length-set}
+use denote.Ref.{now}
+use Rattle.tables.specs.Tables.{count, units}
+use borrow.Author.Needs.{needs}
+use Rattle.pool.proofs.unit.take_place.Statement.{statement}
+use Rattle.pool.proofs.unit.take_place.Tie as tie
+
+add-u : tie.Need-add-u
+add-u c = search needs
+
+mul-u : tie.Need-mul-u
+mul-u c = search needs
+
+slice-read-u : tie.Need-slice-read-u
+slice-read-u c = search needs
+
+add-c : tie.Need-add-c
+add-c c = search needs
+
+mul-c : tie.Need-mul-c
+mul-c c = search needs
+
+slice-read-c : tie.Need-slice-read-c
+slice-read-c c = search needs
+
+mul-down64 : tie.Need-mul-down64
+mul-down64 c = search needs
+
+add-down64 : tie.Need-add-down64
+add-down64 c = search needs
+
+mul-down64-2 : tie.Need-mul-down64-2
+mul-down64-2 c = search needs
+
+add-down64-2 : tie.Need-add-down64-2
+add-down64-2 c = search needs
+
+mul-down64-3 : tie.Need-mul-down64-3
+mul-down64-3 c = search needs
+
+add-down64-3 : tie.Need-add-down64-3
+add-down64-3 c = search needs
+
+mul-down64-4 : tie.Need-mul-down64-4
+mul-down64-4 c = search needs
+
+add-down64-4 : tie.Need-add-down64-4
+add-down64-4 c = search needs
+
+down64-requires : tie.Need-down64-requires
+down64-requires c κs = search needs
+
+mul-downf : tie.Need-mul-downf
+mul-downf c = search needs
+
+add-downf : tie.Need-add-downf
+add-downf c = search needs
+
+mul-downf-2 : tie.Need-mul-downf-2
+mul-downf-2 c = search needs
+
+add-downf-2 : tie.Need-add-downf-2
+add-downf-2 c = search needs
+
+downf-requires : tie.Need-downf-requires
+downf-requires c κs = search needs
+
+sub-words : tie.Need-sub-words
+sub-words c = search needs
+
+add-words : tie.Need-add-words
+add-words c = search needs
+
+mul-words : tie.Need-mul-words
+mul-words c = search needs
+
+slice-write-words : tie.Need-slice-write-words
+slice-write-words c = search needs
+
+sub-words-2 : tie.Need-sub-words-2
+sub-words-2 c = search needs
+
+add-words-2 : tie.Need-add-words-2
+add-words-2 c = search needs
+
+mul-words-2 : tie.Need-mul-words-2
+mul-words-2 c = search needs
+
+slice-write-words-2 : tie.Need-slice-write-words-2
+slice-write-words-2 c = simp length-set (omega (arith, c .before .before .before .before .before .before .down64 .kept .0, c .before .before .before .before .before .before .before .before .before .before .before .before .pre))
+
+same-length : tie.Need-same-length
+same-length c = search needs
+
+same-length-2 : tie.Need-same-length-2
+same-length-2 c = search needs
+
+returns : tie.Need-returns
+returns c =
+    let a = c .before .before .before .before .before .before .before .before .before .before .before .before .args in
+    let w = now (a .words) in
+    (ap₂ (λ (x : List ℕ) (k : ℕ). set (set x (24 + a .l) (units w (a .l) - 1)) (8 + a .l) (count w (a .l) - k)) (c .before .before .before .before .before .before .down64 .ensures) (c .before .before .before .before .before .before .before .before .before .before .before .before .pre .5), c .before .before .downf .ensures)
+
+pub take-place-spec : {M : Type 1} → statement M
+take-place-spec =
+    tie.close
+    (tie.spec
+    add-u
+    mul-u
+    slice-read-u
+    add-c
+    mul-c
+    slice-read-c
+    mul-down64
+    add-down64
+    mul-down64-2
+    add-down64-2
+    mul-down64-3
+    add-down64-3
+    mul-down64-4
+    add-down64-4
+    down64-requires
+    mul-downf
+    add-downf
+    mul-downf-2
+    add-downf-2
+    downf-requires
+    sub-words
+    add-words
+    mul-words
+    slice-write-words
+    sub-words-2
+    add-words-2
+    mul-words-2
+    slice-write-words-2
+    same-length
+    same-length-2
+    returns)
