@@ -9,7 +9,7 @@ ghost use Rattle.chain.specs.Chain.{chainOk, homed, inUseAt, swapped, fl
 use octets::emit::copy;
 
 // dst with n entries from index at replaced by src's from index from on.
-pub fn copy16(dst: &mut [u16], at: usize, src: &[u16], from: usize, n: usize)
+fn copy16(dst: &mut [u16], at: usize, src: &[u16], from: usize, n: usize)
     requires { ⌜ (at + n ≤ length (now dst)) × (from + n ≤ length (now src)) ⌝ }
     ensures { λ _. ⌜ now (dst .exit) ≡ put (now (dst .entry)) at (take n (drop from (now (src .entry)))) ⌝ }
 {
@@ -40,7 +40,7 @@ pub fn homed_ok(list: &[u16], home: &[u16], b: usize, n: usize) -> bool
 }
 
 // The home of each entry from p on, up to n, is set.
-pub fn rehome(list: &[u16], home: &mut [u16], b: usize, p: usize, n: usize)
+fn rehome(list: &[u16], home: &mut [u16], b: usize, p: usize, n: usize)
     requires { ⌜ (p ≤ n) × (n ≤ length (now list)) × (n ≤ 1024) × (b ≤ length (now home)) × (chainOk b (take n (now list)) ≡ true) × (homed (now home) (now list) b p ≡ true) ⌝ }
     ensures { λ _. ⌜ homed (now (home .exit)) (now (list .entry)) b n ≡ true ⌝ }
 {
@@ -53,7 +53,7 @@ pub fn rehome(list: &[u16], home: &mut [u16], b: usize, p: usize, n: usize)
 }
 
 // Whether x is one of the first n.
-pub fn in_use(list: &[u16], home: &[u16], n: usize, x: usize) -> bool
+fn in_use(list: &[u16], home: &[u16], n: usize, x: usize) -> bool
     requires { ⌜ (n ≤ length (now list)) × (x < length (now home)) ⌝ }
     ensures { λ r. ⌜ r ≡ inUseAt (now (home .entry)) (now (list .entry)) n x ⌝ }
 {
@@ -62,7 +62,7 @@ pub fn in_use(list: &[u16], home: &[u16], n: usize, x: usize) -> bool
 }
 
 // A block that is none of the first n is put behind them.
-pub fn one_more(list: &mut [u16], home: &mut [u16], b: usize, n: usize)
+fn one_more(list: &mut [u16], home: &mut [u16], b: usize, n: usize)
     requires { ⌜ (n < b) × (b ≤ 1024) × (b ≤ length (now list)) × (b ≤ length (now home)) × (homed (now home) (now list) b n ≡ true) ⌝ }
     ensures { λ _. ⌜ (take n (now (list .exit)) ≡ take n (now (list .entry))) × (homed (now (home .exit)) (now (list .exit)) b (n + 1) ≡ true) ⌝ }
 {
@@ -85,7 +85,7 @@ pub fn one_more(list: &mut [u16], home: &mut [u16], b: usize, n: usize)
 }
 
 // m blocks that are none of the first n are put behind them.
-pub fn more(list: &mut [u16], home: &mut [u16], b: usize, n: usize, m: usize)
+fn more(list: &mut [u16], home: &mut [u16], b: usize, n: usize, m: usize)
     requires { ⌜ (n + m ≤ b) × (b ≤ 1024) × (b ≤ length (now list)) × (b ≤ length (now home)) × (homed (now home) (now list) b n ≡ true) ⌝ }
     ensures { λ _. ⌜ (take n (now (list .exit)) ≡ take n (now (list .entry))) × (homed (now (home .exit)) (now (list .exit)) b (n + m) ≡ true) ⌝ }
 {
@@ -97,7 +97,7 @@ pub fn more(list: &mut [u16], home: &mut [u16], b: usize, n: usize, m: usize)
 }
 
 // The runs from p to q and from q to e change places.
-pub fn swap_near(list: &mut [u16], p: usize, q: usize, e: usize)
+fn swap_near(list: &mut [u16], p: usize, q: usize, e: usize)
     requires { ⌜ (p ≤ q) × (q ≤ e) × (e ≤ length (now list)) × (e ≤ p + 128) ⌝ }
     ensures { λ _. ⌜ now (list .exit) ≡ swapped (now (list .entry)) p q e ⌝ }
 {
@@ -107,7 +107,7 @@ pub fn swap_near(list: &mut [u16], p: usize, q: usize, e: usize)
     copy16(list, p, &s, 0, e - p);
 }
 
-pub fn swap_far(list: &mut [u16], p: usize, q: usize, e: usize)
+fn swap_far(list: &mut [u16], p: usize, q: usize, e: usize)
     requires { ⌜ (p ≤ q) × (q ≤ e) × (e ≤ length (now list)) × (e ≤ p + 1024) ⌝ }
     ensures { λ _. ⌜ now (list .exit) ≡ swapped (now (list .entry)) p q e ⌝ }
 {
@@ -117,7 +117,7 @@ pub fn swap_far(list: &mut [u16], p: usize, q: usize, e: usize)
     copy16(list, p, &s, 0, e - p);
 }
 
-pub fn swap_runs(list: &mut [u16], p: usize, q: usize, e: usize)
+fn swap_runs(list: &mut [u16], p: usize, q: usize, e: usize)
     requires { ⌜ (p ≤ q) × (q ≤ e) × (e ≤ length (now list)) × (e ≤ p + 1024) ⌝ }
     ensures { λ _. ⌜ now (list .exit) ≡ swapped (now (list .entry)) p q e ⌝ }
 {
@@ -129,7 +129,7 @@ pub fn swap_runs(list: &mut [u16], p: usize, q: usize, e: usize)
 }
 
 // m blocks that were free stand from p on, in front of what stood there.
-pub fn insert(list: &mut [u16], home: &mut [u16], b: usize, n: usize, p: usize, m: usize)
+fn insert(list: &mut [u16], home: &mut [u16], b: usize, n: usize, p: usize, m: usize)
     requires { ⌜ (p ≤ n) × (n + m ≤ b) × (b ≤ 1024) × (b ≤ length (now list)) × (b ≤ length (now home)) × (homed (now home) (now list) b n ≡ true) ⌝ }
     ensures { λ _. ⌜ (take (n + m) (now (list .exit)) ≡ take p (now (list .entry)) ++ (take m (drop p (now (list .exit))) ++ take (n - p) (drop p (now (list .entry))))) × (homed (now (home .exit)) (now (list .exit)) b (n + m) ≡ true) ⌝ }
 {
@@ -152,7 +152,7 @@ pub fn release(list: &mut [u16], home: &mut [u16], b: usize, n: usize, p: usize,
 }
 
 // The octets of src, written at place v of the octets that the first n entries spell.
-pub fn write_at(list: &[u16], blocks: &mut [u8], b: usize, n: usize, v: usize, src: &[u8])
+fn write_at(list: &[u16], blocks: &mut [u8], b: usize, n: usize, v: usize, src: &[u8])
     requires { ⌜ (n ≤ b) × (n ≤ length (now list)) × (chainOk b (take n (now list)) ≡ true) × (64 * b ≤ length (now blocks)) × (v + length (now src) ≤ 64 * n) ⌝ }
     ensures { λ _. ⌜ flat (now (blocks .exit)) (take n (now (list .entry))) ≡ put (flat (now (blocks .entry)) (take n (now (list .entry)))) v (now (src .entry)) ⌝ }
 {
@@ -201,7 +201,7 @@ pub fn read_at(
 }
 
 // The k blocks from entry a on become n: free ones are put behind them, or the last of them are free.
-pub fn resize(list: &mut [u16], home: &mut [u16], b: usize, m: usize, a: usize, k: usize, n: usize)
+fn resize(list: &mut [u16], home: &mut [u16], b: usize, m: usize, a: usize, k: usize, n: usize)
     requires { ⌜ (a + k ≤ m) × (m + n ≤ b + k) × (m ≤ b) × (b ≤ 1024) × (b ≤ length (now list)) × (b ≤ length (now home)) × (homed (now home) (now list) b m ≡ true) ⌝ }
     ensures { λ _. ⌜ homed (now (home .exit)) (now (list .exit)) b (m + n - k) ≡ true ⌝ }
     ensures { λ _. ⌜ Resized (now (list .entry)) (now (list .exit)) m a k n ⌝ }

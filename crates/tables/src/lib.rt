@@ -7,7 +7,7 @@ ghost use Rattle.tables.specs.Tables.{links, count, word, placeOk, place
 ghost use Rattle.octets.specs.Tests.{all};
 use model::blocks_of;
 
-pub fn settings_ok(words: &[u64]) -> bool
+fn settings_ok(words: &[u64]) -> bool
     requires { ⌜ 1576 ≤ length (now words) ⌝ }
     ensures { λ r. ⌜ r ≡ settingsOk (now (words .entry)) ⌝ }
 {
@@ -37,7 +37,7 @@ pub fn settings_ok(words: &[u64]) -> bool
 }
 
 // Whether two places have one key.
-pub fn key_eq(words: &[u64], p: usize, q: usize) -> bool
+fn key_eq(words: &[u64], p: usize, q: usize) -> bool
     requires { ⌜ (p < 128) × (q < 128) × (1576 ≤ length (now words)) ⌝ }
     ensures { λ r. ⌜ r ≡ keyEq (now (words .entry)) p q ⌝ }
 {
@@ -52,7 +52,7 @@ pub fn key_eq(words: &[u64], p: usize, q: usize) -> bool
 }
 
 // Whether the key of the i-th place from p on differs from those before it.
-pub fn key_new(words: &[u64], p: usize, i: usize) -> bool
+fn key_new(words: &[u64], p: usize, i: usize) -> bool
     requires { ⌜ (p + i < 128) × (1576 ≤ length (now words)) ⌝ }
     ensures { λ r. ⌜ r ≡ keyNew (now (words .entry)) p i ⌝ }
 {
@@ -67,7 +67,7 @@ pub fn key_new(words: &[u64], p: usize, i: usize) -> bool
 }
 
 // Whether no key stands twice among the u places from p on.
-pub fn keys_ok(words: &[u64], p: usize, u: usize) -> bool
+fn keys_ok(words: &[u64], p: usize, u: usize) -> bool
     requires { ⌜ (p + u ≤ 128) × (1576 ≤ length (now words)) ⌝ }
     ensures { λ r. ⌜ r ≡ keysOk (now (words .entry)) p u ⌝ }
 {
@@ -82,7 +82,7 @@ pub fn keys_ok(words: &[u64], p: usize, u: usize) -> bool
 }
 
 // Whether the block counts of place p are what its parts cost.
-pub fn place_ok(words: &[u64], p: usize) -> bool
+fn place_ok(words: &[u64], p: usize) -> bool
     requires { ⌜ (p < 128) × (1576 ≤ length (now words)) ⌝ }
     ensures { λ r. ⌜ r ≡ placeOk (now (words .entry)) p ⌝ }
 {
@@ -94,7 +94,7 @@ pub fn place_ok(words: &[u64], p: usize) -> bool
 }
 
 // The same of u places from p on.
-pub fn places_ok(words: &[u64], p: usize, u: usize) -> bool
+fn places_ok(words: &[u64], p: usize, u: usize) -> bool
     requires { ⌜ (p + u ≤ 128) × (1576 ≤ length (now words)) ⌝ }
     ensures { λ r. ⌜ r ≡ placesOk (now (words .entry)) p u ⌝ }
 {
@@ -131,7 +131,7 @@ pub fn cost(words: &[u64], p: usize, u: usize) -> u64
 }
 
 // Whether link l is sound, or idle where there is no such link.
-pub fn link_ok(words: &[u64], l: usize) -> bool
+fn link_ok(words: &[u64], l: usize) -> bool
     requires { ⌜ (l < 16) × (1576 ≤ length (now words)) ⌝ }
     ensures { λ r. ⌜ r ≡ linkAt (now (words .entry)) l ⌝ }
 {
@@ -160,7 +160,7 @@ pub fn link_ok(words: &[u64], l: usize) -> bool
     keys_ok(words, 8 * l, v)
 }
 
-pub fn links_ok(words: &[u64]) -> bool
+fn links_ok(words: &[u64]) -> bool
     requires { ⌜ 1576 ≤ length (now words) ⌝ }
     ensures { λ r. ⌜ r ≡ all (linkAt (now (words .entry))) 16 ⌝ }
 {
@@ -189,7 +189,7 @@ pub fn used(words: &[u64], n: usize) -> usize
 }
 
 // What the first n links use above their reserve.
-pub fn excess(words: &[u64], n: usize) -> u64
+fn excess(words: &[u64], n: usize) -> u64
     requires { ⌜ (n ≤ 16) × (1576 ≤ length (now words)) × (settingsOk (now words) ≡ true) × (all (linkAt (now words)) 16 ≡ true) ⌝ }
     ensures { λ r. ⌜ r ≡ excessOf (now (words .entry)) n ⌝ }
 {
