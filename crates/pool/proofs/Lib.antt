@@ -4,3 +4,6 @@ pub mod Change
 pub mod Near
 pub mod Parts
 pub mod Dropped
+pub mod Expired
+pub mod Keys
+pub mod Refused

@@ -93,6 +93,14 @@ pub record Room (w : List ℕ) (l k n : ℕ) : Type 0 where
   pub own : count w l + n ≤ cap w + k
   pub common : excessOf w (links w) + (count w l + n - k - reserve w) ≤ blocksIn w - links w * reserve w + (count w l - reserve w)
 
+-- the answer on u units more and n blocks in the place of k for link l, by the counts: 2, or the refusal
+unfoldable pub refusal : List ℕ → ℕ → ℕ → ℕ → ℕ → ℕ
+refusal w l u k n =
+    let c = count w l + n - k in
+    cond (ltb 8 (units w l + u)) 11
+    (cond (ltb (cap w) c) 12
+    (cond (ltb (blocksIn w - links w * reserve w + (count w l - reserve w)) (excessOf w (links w) + (c - reserve w))) 13 2))
+
 -- the list with entry j left out
 unfoldable pub without : {A : Type 0} → ℕ → List A → List A
 without j us = take j us ++ drop (suc j) us

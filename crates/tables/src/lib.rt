@@ -189,7 +189,7 @@ pub fn used(words: &[u64], n: usize) -> usize
 }
 
 // What the first n links use above their reserve.
-fn excess(words: &[u64], n: usize) -> u64
+pub fn excess(words: &[u64], n: usize) -> u64
     requires { ⌜ (n ≤ 16) × (1576 ≤ length (now words)) × (settingsOk (now words) ≡ true) × (all (linkAt (now words)) 16 ≡ true) ⌝ }
     ensures { λ r. ⌜ r ≡ excessOf (now (words .entry)) n ⌝ }
 {

@@ -1,0 +1,86 @@
+use Prim.Native.Nat.{ℕ, _+_, _*_, _-_, _≤_, _<_}
+use mathlib.Core.Path.{_≡_, sym, ap, _∙_}
+use mathlib.Core.Bool.{true}
+use native.Mathlib.Omega.{arith}
+use borrow.Author.Tests.{ne-eqb, eq-eqb}
+use lib.ListN.{length, getD}
+use lib.Dec.{eqb}
+use denote.Ref.{now}
+use Rattle.octets.specs.Tests.{all}
+use Rattle.octets.proofs.Tests.{all-none, all-more, all-fails}
+use Rattle.tables.specs.Tables.{word}
+use Rattle.pool.specs.View.{keyIs}
+use Rattle.pool.proofs.link.key_at.Statement.{statement}
+use Rattle.pool.proofs.link.key_at.Tie as tie
+
+abbrev Inv-loop : tie.InvT-loop
+Inv-loop words p key k₀ k = (k ≤ 6) × (all (λ x. eqb (word words p x) (getD key x 0)) k ≡ true)
+
+abbrev μ-loop : tie.MeasureT-loop
+μ-loop words p key k₀ k = 6 - k
+
+loop-holds : tie.Need-loop-holds Inv-loop μ-loop
+loop-holds c = (omega arith, all-none (λ x. eqb (word (now (c .args .words)) (c .args .p) x) (getD (now (c .args .key)) x 0)))
+
+mul-if1 : tie.Need-mul-if1 Inv-loop μ-loop
+mul-if1 c = omega arith
+
+add-if1 : tie.Need-add-if1 Inv-loop μ-loop
+add-if1 c = omega arith
+
+add-if1-2 : tie.Need-add-if1-2 Inv-loop μ-loop
+add-if1-2 c = omega arith
+
+mul-if1-2 : tie.Need-mul-if1-2 Inv-loop μ-loop
+mul-if1-2 c = omega arith
+
+shared-slice-read-if1 : tie.Need-shared-slice-read-if1 Inv-loop μ-loop
+shared-slice-read-if1 c = omega arith
+
+mul-if1-3 : tie.Need-mul-if1-3 Inv-loop μ-loop
+mul-if1-3 c = omega arith
+
+shared-slice-read-if1-2 : tie.Need-shared-slice-read-if1-2 Inv-loop μ-loop
+shared-slice-read-if1-2 c = omega arith
+
+returns : tie.Need-returns Inv-loop μ-loop
+returns c =
+    let a = c .before .before .before .before .before .args in
+    sym (all-fails (λ x. eqb (word (now (a .words)) (a .p) x) (getD (now (a .key)) x 0)) (c .before .before .before .before .loop .k) 6 (omega arith) (ne-eqb _ _ (c .if1 .taken)))
+
+add-k : tie.Need-add-k Inv-loop μ-loop
+add-k c = omega arith
+
+loop-less : tie.Need-loop-less Inv-loop μ-loop
+loop-less c = omega arith
+
+loop-again : tie.Need-loop-again Inv-loop μ-loop
+loop-again c =
+    let a = c .before .before .before .before .before .args in
+    (omega arith, all-more (λ x. eqb (word (now (a .words)) (a .p) x) (getD (now (a .key)) x 0)) (c .before .before .before .before .loop .k) (c .before .before .before .before .loop .inv .1) (eq-eqb _ _ (c .if1 .left)))
+
+returns-2 : tie.Need-returns-2 Inv-loop μ-loop
+returns-2 c =
+    let a = c .before .before .args in
+    let e : c .before .loop .k ≡ 6 = omega arith in
+    sym (ap (all (λ x. eqb (word (now (a .words)) (a .p) x) (getD (now (a .key)) x 0))) (sym e) ∙ c .before .loop .inv .1)
+
+pub key-at-spec : {M : Type 1} → statement M
+key-at-spec =
+    tie.close
+    (tie.spec
+    Inv-loop
+    μ-loop
+    loop-holds
+    mul-if1
+    add-if1
+    add-if1-2
+    mul-if1-2
+    shared-slice-read-if1
+    mul-if1-3
+    shared-slice-read-if1-2
+    returns
+    add-k
+    loop-less
+    loop-again
+    returns-2)

@@ -1,0 +1,106 @@
+// Operations on the units of a link of a sound store.
+ghost use mathlib.Core.Path.{_≡_};
+ghost use mathlib.Core.Bool.{true};
+ghost use mathlib.Core.List.{[]};
+ghost use Prim.Native.Nat.{_+_, _*_, _-_, _≤_, _<_};
+ghost use lib.ListN.{length, getD};
+ghost use Rattle.tables.specs.Tables.{links, count, units, tablesOk};
+ghost use Rattle.pool.specs.View.{sound, pend, expired, keyIs, Found, refusal, SameSettings};
+use crate::unit::remove;
+
+// The units of link l that are not fresh are taken out.
+pub fn expire(
+    words: &mut [u64],
+    times: &mut [f64],
+    list: &mut [u16],
+    home: &mut [u16],
+    blocks: &[u8],
+    l: usize,
+    at: f64,
+)
+    requires { ⌜ sound (now words) (now times) (now list) (now home) (now blocks) ≡ true ⌝ }
+    requires { ⌜ l < links (now words) ⌝ }
+    ensures { λ _. ⌜ sound (now (words .exit)) (now (times .exit)) (now (list .exit)) (now (home .exit)) (now (blocks .entry)) ≡ true ⌝ }
+    ensures { λ _. ⌜ pend (now (words .exit)) (now (times .exit)) (now (list .exit)) (now (blocks .entry)) ≡ expired (pend (now (words .entry)) (now (times .entry)) (now (list .entry)) (now (blocks .entry))) l at ⌝ }
+    ensures { λ _. ⌜ SameSettings (now (words .entry)) (now (words .exit)) ⌝ }
+{
+    let mut j: usize = 0;
+    let mut u = words[24 + l] as usize;
+    while j < u {
+        if clock::fresh(at, times[8 * l + j]) {
+            j += 1;
+        } else {
+            remove(words, times, list, home, blocks, l, j);
+            u -= 1;
+        }
+    }
+}
+
+// Whether place p has this key.
+fn key_at(words: &[u64], p: usize, key: &[u64]) -> bool
+    requires { ⌜ (p < 128) × (1576 ≤ length (now words)) × (length (now key) ≡ 6) ⌝ }
+    ensures { λ r. ⌜ r ≡ keyIs (now (words .entry)) p (now (key .entry)) ⌝ }
+{
+    let mut k: usize = 0;
+    while k < 6 {
+        if words[40 + 12 * p + k] != key[k] {
+            return false;
+        }
+        k += 1;
+    }
+    true
+}
+
+// The unit of link l that has this key, or the number of units where none has.
+pub fn find(
+    words: &[u64],
+    times: &[f64],
+    list: &[u16],
+    home: &[u16],
+    blocks: &[u8],
+    l: usize,
+    key: &[u64],
+) -> usize
+    requires { ⌜ sound (now words) (now times) (now list) (now home) (now blocks) ≡ true ⌝ }
+    requires { ⌜ (l < links (now words)) × (length (now key) ≡ 6) ⌝ }
+    ensures { λ r. ⌜ Found (getD (pend (now (words .entry)) (now (times .entry)) (now (list .entry)) (now (blocks .entry))) l []) (now (key .entry)) r ⌝ }
+{
+    let u = words[24 + l] as usize;
+    let mut j: usize = 0;
+    while j < u {
+        if key_at(words, 8 * l + j, key) {
+            return j;
+        }
+        j += 1;
+    }
+    u
+}
+
+// What x is above r.
+fn above(x: u64, r: u64) -> u64
+    ensures { λ y. ⌜ y ≡ x - r ⌝ }
+{
+    if r < x { x - r } else { 0 }
+}
+
+// The answer on u units more and n blocks in the place of k for link l: 2, or the refusal.
+pub fn room(words: &[u64], l: usize, u: u64, k: u64, n: u64) -> u64
+    requires { ⌜ (tablesOk (now words) ≡ true) × (l < links (now words)) × (u ≤ 1) × (k ≤ count (now words) l) × (n ≤ 65536) ⌝ }
+    ensures { λ r. ⌜ r ≡ refusal (now (words .entry)) l u k n ⌝ }
+{
+    if 8 < words[24 + l] + u {
+        return 11;
+    }
+    let before = words[8 + l];
+    let after = before + n - k;
+    if words[4] < after {
+        return 12;
+    }
+    let links = words[1];
+    let r = words[3];
+    let e = tables::excess(words, links as usize);
+    if words[2] - links * r + above(before, r) < e + above(after, r) {
+        return 13;
+    }
+    2
+}
