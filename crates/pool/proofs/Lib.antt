@@ -7,3 +7,5 @@ pub mod Dropped
 pub mod Expired
 pub mod Keys
 pub mod Refused
+pub mod Marked
+pub mod Read

@@ -124,3 +124,7 @@ ready w l j part g hl hj h2 = go (two part h2)
         let b : word w (8 * l + j) (7 + part) ≡ word w (8 * l + j) 8 = ap (λ (q : ℕ). word w (8 * l + j) (7 + q)) e in
         let c : partAt w (8 * l + j) part ≡ word w (8 * l + j) 9 = ap (partAt w (8 * l + j)) e in
         record { close = n; size = s; low = omega (arith, n .few); top-at = omega (arith, s .before, n .fits, n .few-blocks); counted = omega (arith, inside w l j g hl hj); inside = omega (arith, s .before); filled = omega (arith, s .right .top) }
+
+-- where a part stands, by the two calls that find it
+pub begins : (w : List ℕ) (l j part s a : ℕ) → s ≡ startOf w l j → a ≡ s + partAt w (8 * l + j) part → a ≡ startOf w l j + partAt w (8 * l + j) part
+begins w l j part s a e f = f ∙ ap (λ (q : ℕ). q + partAt w (8 * l + j) part) e

@@ -121,6 +121,14 @@ expired st l at = set st l (keepU at (getD st l []))
 abbrev pub markedU : Unit → ℕ → Float → Unit
 markedU u note at = record { key = u .key; note = note; time = at; body = u .body; top = u .top }
 
+-- unit j of link l has this note and this time
+unfoldable pub marked : List Units → ℕ → ℕ → ℕ → Float → List Units
+marked st l j note at = withUnit st l j (markedU (unitOf st l j) note at)
+
+-- the words with the note of place j of link l set
+abbrev pub markWords : List ℕ → ℕ → ℕ → ℕ → List ℕ
+markWords w l j note = set w (40 + 12 * (8 * l + j) + 6) note
+
 -- a new unit of link l, last in the order of admission
 abbrev pub added : List Units → ℕ → List ℕ → ℕ → Float → List Units
 added st l key note at = set st l (getD st l [] ++ (record { key = key; note = note; time = at; body = []; top = [] } ∷ []))
@@ -136,6 +144,9 @@ pub record Found (us : Units) (key : List ℕ) (r : ℕ) : Type 0 where
   pub has : r < length us → getD us r blank .key ≡ key
 
 -- part 0 is the body, and 1 the top
+abbrev pub partOf : ℕ → Unit → List ℕ
+partOf part u = cond (eqb part 0) (u .body) (u .top)
+
 abbrev pub partFrom : ℕ → Unit → ℕ → List ℕ → Unit
 partFrom part u d s = cond (eqb part 0) (bodyFrom u d s) (topFrom u d s)
 

@@ -3,9 +3,10 @@ ghost use mathlib.Core.Path.{_≡_};
 ghost use mathlib.Core.Bool.{true};
 ghost use Prim.Native.Nat.{_+_, _*_, _-_, _≤_, _<_};
 ghost use lib.ListN.{length, getD};
+ghost use Rattle.octets.specs.Emit.{put};
 ghost use Rattle.model.specs.Cost.{blocks as blocksFor};
 ghost use Rattle.tables.specs.Tables.{links, units, word, count, placeCost, tablesOk};
-ghost use Rattle.pool.specs.View.{sound, pend, startOf, partAt, Room, SameSettings, spliced, spliceWords, removed, lessWords, lessTimes};
+ghost use Rattle.pool.specs.View.{sound, pend, startOf, partAt, Room, SameSettings, spliced, spliceWords, removed, lessWords, lessTimes, marked, unitOf, partOf};
 
 // The block from which on place j of link l stands.
 pub fn start_of(words: &[u64], l: usize, j: usize) -> usize
@@ -108,4 +109,54 @@ pub fn remove(
     let k = tables::place_cost(words, 8 * l + j);
     chain::release(list, home, b, m, s, s + k as usize);
     take_place(words, times, l, j, k);
+}
+
+// Unit j of link l gets a note and a time.
+pub fn mark(
+    words: &mut [u64],
+    times: &mut [f64],
+    list: &[u16],
+    home: &[u16],
+    blocks: &[u8],
+    l: usize,
+    j: usize,
+    note: u64,
+    at: f64,
+)
+    requires { ⌜ sound (now words) (now times) (now list) (now home) (now blocks) ≡ true ⌝ }
+    requires { ⌜ (l < links (now words)) × (j < units (now words) l) ⌝ }
+    ensures { λ _. ⌜ sound (now (words .exit)) (now (times .exit)) (now (list .entry)) (now (home .entry)) (now (blocks .entry)) ≡ true ⌝ }
+    ensures { λ _. ⌜ pend (now (words .exit)) (now (times .exit)) (now (list .entry)) (now (blocks .entry)) ≡ marked (pend (now (words .entry)) (now (times .entry)) (now (list .entry)) (now (blocks .entry))) l j note at ⌝ }
+    ensures { λ _. ⌜ SameSettings (now (words .entry)) (now (words .exit)) ⌝ }
+{
+    words[40 + 12 * (8 * l + j) + 6] = note;
+    times[8 * l + j] = at;
+}
+
+// A part of unit j of link l is written into out from index at on; its length.
+pub fn read(
+    words: &[u64],
+    times: &[f64],
+    list: &[u16],
+    home: &[u16],
+    blocks: &[u8],
+    l: usize,
+    j: usize,
+    part: usize,
+    out: &mut [u8],
+    at: usize,
+) -> usize
+    requires { ⌜ sound (now words) (now times) (now list) (now home) (now blocks) ≡ true ⌝ }
+    requires { ⌜ (l < links (now words)) × (j < units (now words) l) × (part < 2) × (at + word (now words) (8 * l + j) (7 + part) ≤ length (now out)) ⌝ }
+    ensures { λ r. ⌜ r ≡ length (partOf part (unitOf (pend (now (words .entry)) (now (times .entry)) (now (list .entry)) (now (blocks .entry))) l j)) ⌝ }
+    ensures { λ _. ⌜ now (out .exit) ≡ put (now (out .entry)) at (partOf part (unitOf (pend (now (words .entry)) (now (times .entry)) (now (list .entry)) (now (blocks .entry))) l j)) ⌝ }
+{
+    let b = words[2] as usize;
+    let links = words[1] as usize;
+    let m = tables::used(words, links);
+    let s = start_of(words, l, j);
+    let a = part_start(words, 8 * l + j, part, s);
+    let d = words[40 + 12 * (8 * l + j) + (7 + part)] as usize;
+    chain::read_at(list, blocks, b, m, 64 * a, out, at, d);
+    d
 }

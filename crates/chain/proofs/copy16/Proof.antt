@@ -8,8 +8,6 @@ use denote.Ref.{now}
 use mathlib.Core.List.{List}
 use Rattle.chain.proofs.copy16.Statement.{statement}
 use Rattle.chain.proofs.copy16.Tie as tie
-use Rattle.chain.proofs.copy16.Reads as reads
-use Rattle.chain.proofs.copy16.Lts as lts
 
 abbrev Inv-loop : tie.InvT-loop
 Inv-loop dst₀ at src from n j₀ dst j = (j ≤ n) × (dst ≡ put dst₀ at (take j (drop from src))) × (length dst ≡ length dst₀)
@@ -17,43 +15,33 @@ Inv-loop dst₀ at src from n j₀ dst j = (j ≤ n) × (dst ≡ put dst₀ at (
 abbrev μ-loop : tie.MeasureT-loop
 μ-loop dst₀ at src from n j₀ dst j = n - j
 
--- src/lib.rt:27:5
 loop-holds : tie.Need-loop-holds Inv-loop μ-loop
 loop-holds c = (omega arith, sym (put-nil _ _), refl)
 
--- src/lib.rt:28:27
 add-dst : tie.Need-add-dst Inv-loop μ-loop
 add-dst c = omega arith
 
--- src/lib.rt:28:23
 mul-dst : tie.Need-mul-dst Inv-loop μ-loop
 mul-dst c = omega arith
 
--- src/lib.rt:28:23
 shared-slice-read-dst : tie.Need-shared-slice-read-dst Inv-loop μ-loop
 shared-slice-read-dst c = omega arith
 
--- src/lib.rt:28:13
 add-dst-2 : tie.Need-add-dst-2 Inv-loop μ-loop
 add-dst-2 c = omega arith
 
--- src/lib.rt:28:9
 mul-dst-2 : tie.Need-mul-dst-2 Inv-loop μ-loop
 mul-dst-2 c = omega arith
 
--- src/lib.rt:28:9
 slice-write-dst : tie.Need-slice-write-dst Inv-loop μ-loop
 slice-write-dst c = omega arith
 
--- src/lib.rt:29:9
 add-j : tie.Need-add-j Inv-loop μ-loop
 add-j c = omega arith
 
--- src/lib.rt:27:5
 loop-less : tie.Need-loop-less Inv-loop μ-loop
 loop-less c = omega arith
 
--- src/lib.rt:27:5
 loop-again : tie.Need-loop-again Inv-loop μ-loop
 loop-again c =
     let at = c .before .before in
@@ -64,11 +52,9 @@ loop-again c =
       simp length-set (at .loop .inv .2),
     )
 
--- src/lib.rt:22:1
 same-length : tie.Need-same-length Inv-loop μ-loop
 same-length c = c .before .loop .inv .2
 
--- src/lib.rt:22:1
 returns : tie.Need-returns Inv-loop μ-loop
 returns c =
     let all : c .before .loop .j ≡ c .before .before .args .n = omega arith in

@@ -11,8 +11,6 @@ use Rattle.chain.specs.Chain.{homeAt, homed}
 use Rattle.octets.proofs.Tests.{all-none, all-more, all-fails, and-false}
 use Rattle.chain.proofs.homed_ok.Statement.{statement}
 use Rattle.chain.proofs.homed_ok.Tie as tie
-use Rattle.chain.proofs.homed_ok.Reads as reads
-use Rattle.chain.proofs.homed_ok.Lts as lts
 
 abbrev Inv-loop : tie.InvT-loop
 Inv-loop list home b n i₀ i = (i ≤ n) × (homed home list b i ≡ true)
@@ -20,42 +18,33 @@ Inv-loop list home b n i₀ i = (i ≤ n) × (homed home list b i ≡ true)
 abbrev μ-loop : tie.MeasureT-loop
 μ-loop list home b n i₀ i = n - i
 
--- src/lib.rt:38:5
 loop-holds : tie.Need-loop-holds Inv-loop μ-loop
 loop-holds c = (omega arith, all-none (homeAt (now (c .args .home)) (now (c .args .list)) (c .args .b)))
 
--- src/lib.rt:39:17
 mul-x : tie.Need-mul-x Inv-loop μ-loop
 mul-x c = omega arith
 
--- src/lib.rt:39:17
 shared-slice-read-x : tie.Need-shared-slice-read-x Inv-loop μ-loop
 shared-slice-read-x c = omega arith
 
--- src/lib.rt:39:17
 cast-x : tie.Need-cast-x Inv-loop μ-loop
 cast-x c = omega (arith, c .shared-slice-known .given (c .before .before .loop .i))
 
--- src/lib.rt:41:13
 returns : tie.Need-returns Inv-loop μ-loop
 returns c =
     let a = c .before .before .before .before .args in
     let i = c .before .before .before .loop .i in
     sym (all-fails (homeAt (now (a .home)) (now (a .list)) (a .b)) i (a .n) (omega arith) (rw (le-ltb (getD (now (a .list)) i 0) (a .b) (c .if1 .taken))))
 
--- src/lib.rt:43:12
 mul-if2 : tie.Need-mul-if2 Inv-loop μ-loop
 mul-if2 c = omega arith
 
--- src/lib.rt:43:12
 shared-slice-read-if2 : tie.Need-shared-slice-read-if2 Inv-loop μ-loop
 shared-slice-read-if2 c = omega arith
 
--- src/lib.rt:43:12
 cast-if2 : tie.Need-cast-if2 Inv-loop μ-loop
 cast-if2 c = omega (arith, c .shared-slice-known2 .given (getD (now (c .before .before .before .before .before .args .list)) (c .before .before .before .before .loop .i) 0))
 
--- src/lib.rt:44:13
 returns-2 : tie.Need-returns-2 Inv-loop μ-loop
 returns-2 c =
     let a = c .before .before .before .before .before .before .args in
@@ -63,15 +52,12 @@ returns-2 c =
     let x = getD (now (a .list)) i 0 in
     sym (all-fails (homeAt (now (a .home)) (now (a .list)) (a .b)) i (a .n) (omega arith) (rw (ne-eqb (getD (now (a .home)) x 0) i (c .if2 .taken)) (and-false (ltb x (a .b)))))
 
--- src/lib.rt:46:9
 add-i : tie.Need-add-i Inv-loop μ-loop
 add-i c = omega arith
 
--- src/lib.rt:38:5
 loop-less : tie.Need-loop-less Inv-loop μ-loop
 loop-less c = omega arith
 
--- src/lib.rt:38:5
 loop-again : tie.Need-loop-again Inv-loop μ-loop
 loop-again c =
     let a = c .before .before .before .before .before .before .args in
@@ -79,7 +65,6 @@ loop-again c =
     let x = getD (now (a .list)) i 0 in
     (omega arith, all-more (homeAt (now (a .home)) (now (a .list)) (a .b)) i (c .before .before .before .before .before .loop .inv .1) (rw (lt-ltb x (a .b) (c .before .before .if1 .left), eq-eqb (getD (now (a .home)) x 0) i (c .if2 .left))))
 
--- src/lib.rt:33:1
 returns-3 : tie.Need-returns-3 Inv-loop μ-loop
 returns-3 c =
     let a = c .before .before .args in

@@ -11,29 +11,19 @@ use Rattle.chain.proofs.Home.{homed-chain, homed-less}
 use Rattle.chain.proofs.Moves.{still, before, inserted, at-end}
 use Rattle.chain.proofs.insert.Statement.{statement}
 use Rattle.chain.proofs.insert.Tie as tie
-use Rattle.chain.proofs.insert.Reads as reads
-use Rattle.chain.proofs.insert.Lts as lts
-use Rattle.chain.proofs.more.Reads as more-reads
-use Rattle.chain.proofs.rehome.Reads as rehome-reads
-use Rattle.chain.proofs.swap_runs.Reads as swap-runs-reads
 
--- src/lib.rt:149:5
 more-requires : tie.Need-more-requires
 more-requires c κs = search needs
 
--- src/lib.rt:151:31
 add-swap-runs : tie.Need-add-swap-runs
 add-swap-runs c = search needs
 
--- src/lib.rt:151:9
 swap-runs-requires : tie.Need-swap-runs-requires
 swap-runs-requires c κs = search needs
 
--- src/lib.rt:152:34
 add-rehome : tie.Need-add-rehome
 add-rehome c = search needs
 
--- src/lib.rt:152:9
 rehome-requires : tie.Need-rehome-requires
 rehome-requires c κs =
     let a = c .before .before .before .before .before .before .before .before .before .before .before .before .before .before .before .before .args in
@@ -48,15 +38,12 @@ rehome-requires c κs =
     let ch : chainOk (a .b) (take (a .n + a .m) l) ≡ true = homed-chain h l (a .b) (a .n + a .m) (c .before .before .before .before .before .before .before .before .before .before .before .more .ensures .1) (omega (arith, pre)) in
     (omega (arith, pre), omega (arith, pre, ln), omega (arith, pre), omega (arith, pre, h0), rw e (still l (a .p) (a .n) (a .n + a .m) (pre .0) (omega arith) (omega (arith, pre)) (a .b) ch), rw e (before l (a .p) (a .n) (a .n + a .m) (pre .0) (omega arith) (omega (arith, pre)) h (a .b) (c .before .before .before .before .before .before .before .before .before .before .before .more .ensures .1)))
 
--- src/lib.rt:145:1
 same-length : tie.Need-same-length
 same-length c = search needs
 
--- src/lib.rt:145:1
 same-length-2 : tie.Need-same-length-2
 same-length-2 c = search needs
 
--- src/lib.rt:145:1
 returns : tie.Need-returns
 returns c =
     let a = c .before .before .before .before .before .before .before .before .before .before .before .before .before .before .before .before .before .before .before .args in
@@ -69,15 +56,12 @@ returns c =
       c .before .before .rehome .ensures,
     )
 
--- src/lib.rt:145:1
 same-length-3 : tie.Need-same-length-3
 same-length-3 c = search needs
 
--- src/lib.rt:145:1
 same-length-4 : tie.Need-same-length-4
 same-length-4 c = search needs
 
--- src/lib.rt:145:1
 returns-2 : tie.Need-returns-2
 returns-2 c =
     let a = c .before .before .before .before .before .before .before .before .before .before .args in

@@ -9,9 +9,6 @@ use Rattle.chain.specs.Chain.{homed}
 use Rattle.chain.proofs.Moves.{take-less}
 use Rattle.chain.proofs.more.Statement.{statement}
 use Rattle.chain.proofs.more.Tie as tie
-use Rattle.chain.proofs.more.Reads as reads
-use Rattle.chain.proofs.more.Lts as lts
-use Rattle.chain.proofs.one_more.Reads as one-more-reads
 
 abbrev Inv-loop : tie.InvT-loop
 Inv-loop list₀ home₀ b n m i₀ list home i = (i ≤ m) × (length list ≡ length list₀) × (length home ≡ length home₀) × (take n list ≡ take n list₀) × (homed home list b (n + i) ≡ true)
@@ -19,27 +16,21 @@ Inv-loop list₀ home₀ b n m i₀ list home i = (i ≤ m) × (length list ≡ 
 abbrev μ-loop : tie.MeasureT-loop
 μ-loop list₀ home₀ b n m i₀ list home i = m - i
 
--- src/lib.rt:106:5
 loop-holds : tie.Need-loop-holds Inv-loop μ-loop
 loop-holds c = (omega arith, refl, refl, refl, rw add-zero (c .before .before .pre .4))
 
--- src/lib.rt:107:33
 add-one-more : tie.Need-add-one-more Inv-loop μ-loop
 add-one-more c = omega arith
 
--- src/lib.rt:107:9
 one-more-requires : tie.Need-one-more-requires Inv-loop μ-loop
 one-more-requires c κs = (omega arith, omega arith, omega arith, omega arith, c .before .before .before .loop .inv .4)
 
--- src/lib.rt:108:9
 add-i : tie.Need-add-i Inv-loop μ-loop
 add-i c = omega arith
 
--- src/lib.rt:106:5
 loop-less : tie.Need-loop-less Inv-loop μ-loop
 loop-less c = omega arith
 
--- src/lib.rt:106:5
 loop-again : tie.Need-loop-again Inv-loop μ-loop
 loop-again c =
     let a = c .before .before .before .before .before .before .before .before .before .before .before .args in
@@ -51,15 +42,12 @@ loop-again c =
       ap (homed (c .before .before .before .before .one-more .last .1 .0) (c .before .before .before .before .one-more .last .0) (a .b)) (sym (add-assoc (a .n) (c .before .before .before .before .before .before .before .before .loop .i) 1)) ∙ c .before .before .before .before .one-more .ensures .1,
     )
 
--- src/lib.rt:101:1
 same-length : tie.Need-same-length Inv-loop μ-loop
 same-length c = c .before .loop .inv .1
 
--- src/lib.rt:101:1
 same-length-2 : tie.Need-same-length-2 Inv-loop μ-loop
 same-length-2 c = c .before .loop .inv .2
 
--- src/lib.rt:101:1
 returns : tie.Need-returns Inv-loop μ-loop
 returns c =
     let e : c .before .loop .i ≡ c .before .before .before .before .args .m = omega arith in

@@ -11,9 +11,6 @@ use Rattle.octets.proofs.Put.{put-nil}
 use Rattle.chain.proofs.Flat.{read-more, below}
 use Rattle.chain.proofs.read_at.Statement.{statement}
 use Rattle.chain.proofs.read_at.Tie as tie
-use Rattle.chain.proofs.read_at.Reads as reads
-use Rattle.chain.proofs.read_at.Lts as lts
-use Rattle.octets.proofs.emit.copy.Reads as copy-reads
 
 abbrev Inv-loop : tie.InvT-loop
 Inv-loop list blocks b n v out₀ at m done₀ out done =
@@ -38,65 +35,50 @@ turn c =
     let x< : getD (now (a .list)) i 0 < a .b = rw (getD-take (a .n) (now (a .list)) i 0 hi) at (below (a .b) (take (a .n) (now (a .list))) i (start .pre .2) (omega arith)) in
     ⊎-elim (λ w. omega (arith, start .pre, c .before .before)) (λ w. omega (arith, start .pre, c .before .before)) (c .if1 .came)
 
--- src/lib.rt:90:5
 loop-holds : tie.Need-loop-holds Inv-loop μ-loop
 loop-holds c = (omega arith, refl, sym (put-nil (now (c .before .before .before .args .out)) (c .before .before .before .args .at)))
 
--- src/lib.rt:91:17
 add-w : tie.Need-add-w Inv-loop μ-loop
 add-w c = omega arith
 
--- src/lib.rt:94:17
 mul-x : tie.Need-mul-x Inv-loop μ-loop
 mul-x c = omega arith
 
--- src/lib.rt:94:17
 shared-slice-read-x : tie.Need-shared-slice-read-x Inv-loop μ-loop
 shared-slice-read-x c = omega arith
 
--- src/lib.rt:94:17
 cast-x : tie.Need-cast-x Inv-loop μ-loop
 cast-x c =
     let at = c .before .before in
     omega (arith, c .shared-slice-known3 .given ((at .before .before .before .before .args .v + at .loop .done) / 64))
 
--- src/lib.rt:95:21
 sub-part : tie.Need-sub-part Inv-loop μ-loop
 sub-part c = omega arith
 
--- src/lib.rt:96:12
 sub-if1 : tie.Need-sub-if1 Inv-loop μ-loop
 sub-if1 c = omega arith
 
--- src/lib.rt:97:17
 sub-part-2 : tie.Need-sub-part-2 Inv-loop μ-loop
 sub-part-2 c = omega arith
 
--- src/lib.rt:99:20
 add-copy : tie.Need-add-copy Inv-loop μ-loop
 add-copy c = omega (arith, turn (c .before))
 
--- src/lib.rt:99:39
 mul-copy : tie.Need-mul-copy Inv-loop μ-loop
 mul-copy c = omega (arith, turn (c .before))
 
--- src/lib.rt:99:39
 add-copy-2 : tie.Need-add-copy-2 Inv-loop μ-loop
 add-copy-2 c = omega (arith, turn (c .before))
 
--- src/lib.rt:99:9
 copy-requires : tie.Need-copy-requires Inv-loop μ-loop
 copy-requires c κs = omega (arith, turn (c .before))
 
--- src/lib.rt:100:9
 add-done : tie.Need-add-done Inv-loop μ-loop
 add-done c = omega (arith, turn (c .before .before .before .before .before))
 
--- src/lib.rt:90:5
 loop-less : tie.Need-loop-less Inv-loop μ-loop
 loop-less c = omega (arith, turn (c .before .before .before .before .before))
 
--- src/lib.rt:90:5
 loop-again : tie.Need-loop-again Inv-loop μ-loop
 loop-again c =
     let called = c .before .before .before in
@@ -115,11 +97,9 @@ loop-again c =
           (at .loop .inv .2) (rw x= (called .copy .ensures)),
     )
 
--- src/lib.rt:85:1
 same-length : tie.Need-same-length Inv-loop μ-loop
 same-length c = c .before .loop .inv .1
 
--- src/lib.rt:85:1
 returns : tie.Need-returns Inv-loop μ-loop
 returns c =
     let at = c .before in

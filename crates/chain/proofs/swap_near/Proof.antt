@@ -9,55 +9,40 @@ use Rattle.chain.proofs.Laws.{swap-law}
 use borrow.Author.Needs.{needs}
 use Rattle.chain.proofs.swap_near.Statement.{statement}
 use Rattle.chain.proofs.swap_near.Tie as tie
-use Rattle.chain.proofs.swap_near.Reads as reads
-use Rattle.chain.proofs.swap_near.Lts as lts
-use Rattle.chain.proofs.copy16.Reads as copy16-reads
 
--- src/lib.rt:59:12
 slice-aggregate-copy16 : tie.Need-slice-aggregate-copy16
 slice-aggregate-copy16 c = search needs
 
--- src/lib.rt:59:32
 sub-copy16 : tie.Need-sub-copy16
 sub-copy16 c = search needs
 
--- src/lib.rt:59:5
 copy16-requires : tie.Need-copy16-requires
 copy16-requires c κs = search needs
 
--- src/lib.rt:60:12
 slice-aggregate-copy16-2 : tie.Need-slice-aggregate-copy16-2
 slice-aggregate-copy16-2 c = search needs
 
--- src/lib.rt:60:20
 sub-copy16-2 : tie.Need-sub-copy16-2
 sub-copy16-2 c = search needs
 
--- src/lib.rt:60:36
 sub-copy16-3 : tie.Need-sub-copy16-3
 sub-copy16-3 c = search needs
 
--- src/lib.rt:60:5
 copy16-requires-2 : tie.Need-copy16-requires-2
 copy16-requires-2 c κs = search needs
 
--- src/lib.rt:61:21
 slice-aggregate-copy16-3 : tie.Need-slice-aggregate-copy16-3
 slice-aggregate-copy16-3 c = search needs
 
--- src/lib.rt:61:28
 sub-copy16-4 : tie.Need-sub-copy16-4
 sub-copy16-4 c = search needs
 
--- src/lib.rt:61:5
 copy16-requires-3 : tie.Need-copy16-requires-3
 copy16-requires-3 c κs = search needs
 
--- src/lib.rt:54:1
 same-length : tie.Need-same-length
 same-length c = search needs
 
--- src/lib.rt:54:1
 returns : tie.Need-returns
 returns c =
     let third = c .before .before in

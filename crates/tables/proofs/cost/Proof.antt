@@ -15,9 +15,6 @@ use Rattle.tables.specs.Tables.{links, blocksIn, reserve, cap, count, un
 use Rattle.tables.proofs.Laws.{sum-none, sum-next, settings, link, link-of, link-is, idle-is, counts-low, product}
 use Rattle.tables.proofs.cost.Statement.{statement}
 use Rattle.tables.proofs.cost.Tie as tie
-use Rattle.tables.proofs.cost.Reads as reads
-use Rattle.tables.proofs.cost.Lts as lts
-use Rattle.tables.proofs.place_cost.Reads as place-cost-reads
 
 abbrev Inv-loop : tie.InvT-loop
 Inv-loop words p u sum₀ j₀ sum j = (j ≤ u) × (sum ≡ costs words p j) × (sum ≤ 576460752303423490 * j)
@@ -25,33 +22,26 @@ Inv-loop words p u sum₀ j₀ sum j = (j ≤ u) × (sum ≡ costs words p j) ×
 abbrev μ-loop : tie.MeasureT-loop
 μ-loop words p u sum₀ j₀ sum j = u - j
 
--- src/lib.rt:105:5
 loop-holds : tie.Need-loop-holds Inv-loop μ-loop
 loop-holds c = (omega arith, sym (sum-none (λ j. placeCost (now (c .before .args .words)) (c .before .args .p + j))), omega arith)
 
--- src/lib.rt:106:34
 add-place-cost : tie.Need-add-place-cost Inv-loop μ-loop
 add-place-cost c = omega arith
 
--- src/lib.rt:106:16
 place-cost-requires : tie.Need-place-cost-requires Inv-loop μ-loop
 place-cost-requires c κs =
     let a = c .before .before .before .args in
     (omega arith, omega arith, all-at (λ j. placeOk (now (a .words)) (a .p + j)) (c .before .loop .j) (a .u) (c .before .before .before .pre .3) (omega arith))
 
--- src/lib.rt:106:9
 add-sum : tie.Need-add-sum Inv-loop μ-loop
 add-sum c = omega (arith, c .place-cost .ensures)
 
--- src/lib.rt:107:9
 add-j : tie.Need-add-j Inv-loop μ-loop
 add-j c = omega arith
 
--- src/lib.rt:105:5
 loop-less : tie.Need-loop-less Inv-loop μ-loop
 loop-less c = omega arith
 
--- src/lib.rt:105:5
 loop-again : tie.Need-loop-again Inv-loop μ-loop
 loop-again c =
     let w = now (c .before .before .before .before .args .words) in
@@ -60,7 +50,6 @@ loop-again c =
     let n : costs w p (j + 1) ≡ costs w p j + placeCost w (p + j) = sum-next (λ j. placeCost w (p + j)) j in
     (omega arith, omega (arith, n, c .place-cost .ensures), omega (arith, c .place-cost .ensures))
 
--- src/lib.rt:99:1
 returns : tie.Need-returns Inv-loop μ-loop
 returns c =
     let e : c .before .loop .j ≡ c .before .before .before .args .u = omega arith in

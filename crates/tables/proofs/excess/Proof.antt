@@ -15,8 +15,6 @@ use Rattle.tables.specs.Tables.{links, blocksIn, reserve, cap, count, un
 use Rattle.tables.proofs.Laws.{sum-none, sum-next, settings, link, link-of, link-is, idle-is, counts-low, product}
 use Rattle.tables.proofs.excess.Statement.{statement}
 use Rattle.tables.proofs.excess.Tie as tie
-use Rattle.tables.proofs.excess.Reads as reads
-use Rattle.tables.proofs.excess.Lts as lts
 
 abbrev Inv-loop : tie.InvT-loop
 Inv-loop words n r sum₀ l₀ sum l = (l ≤ n) × (sum ≡ excessOf words l) × (sum ≤ 1024 * l)
@@ -24,45 +22,35 @@ Inv-loop words n r sum₀ l₀ sum l = (l ≤ n) × (sum ≡ excessOf words l) �
 abbrev μ-loop : tie.MeasureT-loop
 μ-loop words n r sum₀ l₀ sum l = n - l
 
--- src/lib.rt:172:13
 shared-slice-read-r : tie.Need-shared-slice-read-r Inv-loop μ-loop
 shared-slice-read-r c = omega arith
 
--- src/lib.rt:175:5
 loop-holds : tie.Need-loop-holds Inv-loop μ-loop
 loop-holds c = (omega arith, sym (sum-none (λ l. count (now (c .before .args .words)) l - reserve (now (c .before .args .words)))), omega arith)
 
--- src/lib.rt:176:23
 add-k : tie.Need-add-k Inv-loop μ-loop
 add-k c = omega arith
 
--- src/lib.rt:176:17
 mul-k : tie.Need-mul-k Inv-loop μ-loop
 mul-k c = omega arith
 
--- src/lib.rt:176:17
 shared-slice-read-k : tie.Need-shared-slice-read-k Inv-loop μ-loop
 shared-slice-read-k c = omega arith
 
--- src/lib.rt:178:20
 sub-sum : tie.Need-sub-sum Inv-loop μ-loop
 sub-sum c = omega arith
 
--- src/lib.rt:178:13
 add-sum : tie.Need-add-sum Inv-loop μ-loop
 add-sum c =
     let w = now (c .before .before .before .before .before .args .words) in
     omega (arith, counts-low w (c .before .before .before .before .before .pre .2) (c .before .before .before .before .before .pre .3) (c .before .before .before .loop .l) (omega arith))
 
--- src/lib.rt:180:9
 add-l : tie.Need-add-l Inv-loop μ-loop
 add-l c = omega arith
 
--- src/lib.rt:175:5
 loop-less : tie.Need-loop-less Inv-loop μ-loop
 loop-less c = omega arith
 
--- src/lib.rt:175:5
 loop-again : tie.Need-loop-again Inv-loop μ-loop
 loop-again c =
     let w = now (c .before .before .before .before .before .args .words) in
@@ -71,7 +59,6 @@ loop-again c =
     let k = counts-low w (c .before .before .before .before .before .pre .2) (c .before .before .before .before .before .pre .3) l (omega arith) in
     ⊎-elim (λ z. omega (arith, n, k, z)) (λ z. omega (arith, n, k, z)) (c .if1 .came)
 
--- src/lib.rt:168:1
 returns : tie.Need-returns Inv-loop μ-loop
 returns c =
     let e : c .before .loop .l ≡ c .before .before .before .args .n = omega arith in

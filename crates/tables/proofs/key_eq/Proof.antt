@@ -15,8 +15,6 @@ use Rattle.tables.specs.Tables.{links, blocksIn, reserve, cap, count, un
 use Rattle.tables.proofs.Laws.{sum-none, sum-next, settings, link, link-of, link-is, idle-is, counts-low, product}
 use Rattle.tables.proofs.key_eq.Statement.{statement}
 use Rattle.tables.proofs.key_eq.Tie as tie
-use Rattle.tables.proofs.key_eq.Reads as reads
-use Rattle.tables.proofs.key_eq.Lts as lts
 
 abbrev Inv-loop : tie.InvT-loop
 Inv-loop words p q k₀ k = (k ≤ 6) × (all (wordEq words p q) k ≡ true)
@@ -24,71 +22,55 @@ Inv-loop words p q k₀ k = (k ≤ 6) × (all (wordEq words p q) k ≡ true)
 abbrev μ-loop : tie.MeasureT-loop
 μ-loop words p q k₀ k = 6 - k
 
--- src/lib.rt:51:5
 loop-holds : tie.Need-loop-holds Inv-loop μ-loop
 loop-holds c = (omega arith, all-none (wordEq (now (c .args .words)) (c .args .p) (c .args .q)))
 
--- src/lib.rt:52:23
 mul-if1 : tie.Need-mul-if1 Inv-loop μ-loop
 mul-if1 c = omega arith
 
--- src/lib.rt:52:18
 add-if1 : tie.Need-add-if1 Inv-loop μ-loop
 add-if1 c = omega arith
 
--- src/lib.rt:52:18
 add-if1-2 : tie.Need-add-if1-2 Inv-loop μ-loop
 add-if1-2 c = omega arith
 
--- src/lib.rt:52:12
 mul-if1-2 : tie.Need-mul-if1-2 Inv-loop μ-loop
 mul-if1-2 c = omega arith
 
--- src/lib.rt:52:12
 shared-slice-read-if1 : tie.Need-shared-slice-read-if1 Inv-loop μ-loop
 shared-slice-read-if1 c = omega arith
 
--- src/lib.rt:52:49
 mul-if1-3 : tie.Need-mul-if1-3 Inv-loop μ-loop
 mul-if1-3 c = omega arith
 
--- src/lib.rt:52:44
 add-if1-3 : tie.Need-add-if1-3 Inv-loop μ-loop
 add-if1-3 c = omega arith
 
--- src/lib.rt:52:44
 add-if1-4 : tie.Need-add-if1-4 Inv-loop μ-loop
 add-if1-4 c = omega arith
 
--- src/lib.rt:52:38
 mul-if1-4 : tie.Need-mul-if1-4 Inv-loop μ-loop
 mul-if1-4 c = omega arith
 
--- src/lib.rt:52:38
 shared-slice-read-if1-2 : tie.Need-shared-slice-read-if1-2 Inv-loop μ-loop
 shared-slice-read-if1-2 c = omega arith
 
--- src/lib.rt:53:13
 returns : tie.Need-returns Inv-loop μ-loop
 returns c =
     let a = c .before .before .before .before .before .args in
     sym (all-fails (wordEq (now (a .words)) (a .p) (a .q)) (c .before .before .before .before .loop .k) 6 (omega arith) (ne-eqb _ _ (c .if1 .taken)))
 
--- src/lib.rt:55:9
 add-k : tie.Need-add-k Inv-loop μ-loop
 add-k c = omega arith
 
--- src/lib.rt:51:5
 loop-less : tie.Need-loop-less Inv-loop μ-loop
 loop-less c = omega arith
 
--- src/lib.rt:51:5
 loop-again : tie.Need-loop-again Inv-loop μ-loop
 loop-again c =
     let a = c .before .before .before .before .before .args in
     (omega arith, all-more (wordEq (now (a .words)) (a .p) (a .q)) (c .before .before .before .before .loop .k) (c .before .before .before .before .loop .inv .1) (eq-eqb _ _ (c .if1 .left)))
 
--- src/lib.rt:46:1
 returns-2 : tie.Need-returns-2 Inv-loop μ-loop
 returns-2 c =
     let a = c .before .before .args in

@@ -10,9 +10,6 @@ use Rattle.tables.specs.Tables.{keyEq, keyNew}
 use Rattle.octets.proofs.Tests.{all-none, all-more, all-fails}
 use Rattle.tables.proofs.key_new.Statement.{statement}
 use Rattle.tables.proofs.key_new.Tie as tie
-use Rattle.tables.proofs.key_new.Reads as reads
-use Rattle.tables.proofs.key_new.Lts as lts
-use Rattle.tables.proofs.key_eq.Reads as key-eq-reads
 
 abbrev differs : List ℕ → ℕ → ℕ → ℕ → Bool
 differs w p i j = not (keyEq w (p + i) (p + j))
@@ -23,23 +20,18 @@ Inv-loop words p i j₀ j = (j ≤ i) × (all (differs words p i) j ≡ true)
 abbrev μ-loop : tie.MeasureT-loop
 μ-loop words p i j₀ j = i - j
 
--- src/lib.rt:28:5
 loop-holds : tie.Need-loop-holds Inv-loop μ-loop
 loop-holds c = (omega arith, all-none (differs (now (c .before .args .words)) (c .before .args .p) (c .before .args .i)))
 
--- src/lib.rt:29:26
 add-key-eq : tie.Need-add-key-eq Inv-loop μ-loop
 add-key-eq c = omega arith
 
--- src/lib.rt:29:33
 add-key-eq-2 : tie.Need-add-key-eq-2 Inv-loop μ-loop
 add-key-eq-2 c = omega arith
 
--- src/lib.rt:29:12
 key-eq-requires : tie.Need-key-eq-requires Inv-loop μ-loop
 key-eq-requires c κs = omega arith
 
--- src/lib.rt:30:13
 returns : tie.Need-returns Inv-loop μ-loop
 returns c =
     let at = c .before .before .before in
@@ -47,15 +39,12 @@ returns c =
     sym (all-fails (differs (now (a .words)) (a .p) (a .i)) (at .loop .j) (a .i) (omega arith)
     (ap not (sym (c .before .key-eq .ensures) ∙ c .if1 .taken)))
 
--- src/lib.rt:32:9
 add-j : tie.Need-add-j Inv-loop μ-loop
 add-j c = omega arith
 
--- src/lib.rt:28:5
 loop-less : tie.Need-loop-less Inv-loop μ-loop
 loop-less c = omega arith
 
--- src/lib.rt:28:5
 loop-again : tie.Need-loop-again Inv-loop μ-loop
 loop-again c =
     let at = c .before .before .before in
@@ -65,7 +54,6 @@ loop-again c =
           (ap not (sym (c .before .key-eq .ensures) ∙ c .if1 .left)),
     )
 
--- src/lib.rt:23:1
 returns-2 : tie.Need-returns-2 Inv-loop μ-loop
 returns-2 c =
     let at = c .before in

@@ -15,9 +15,6 @@ use Rattle.tables.specs.Tables.{links, blocksIn, reserve, cap, count, un
 use Rattle.tables.proofs.Laws.{sum-none, sum-next, settings, link, link-of, link-is, idle-is, counts-low, product}
 use Rattle.tables.proofs.links_ok.Statement.{statement}
 use Rattle.tables.proofs.links_ok.Tie as tie
-use Rattle.tables.proofs.links_ok.Reads as reads
-use Rattle.tables.proofs.links_ok.Lts as lts
-use Rattle.tables.proofs.link_ok.Reads as link-ok-reads
 
 abbrev Inv-loop : tie.InvT-loop
 Inv-loop words l₀ l = (l ≤ 16) × (all (linkAt words) l ≡ true)
@@ -25,31 +22,24 @@ Inv-loop words l₀ l = (l ≤ 16) × (all (linkAt words) l ≡ true)
 abbrev μ-loop : tie.MeasureT-loop
 μ-loop words l₀ l = 16 - l
 
--- src/lib.rt:144:5
 loop-holds : tie.Need-loop-holds Inv-loop μ-loop
 loop-holds c = (omega arith, all-none (linkAt (now (c .before .args .words))))
 
--- src/lib.rt:145:13
 link-ok-requires : tie.Need-link-ok-requires Inv-loop μ-loop
 link-ok-requires c κs = omega arith
 
--- src/lib.rt:146:13
 returns : tie.Need-returns Inv-loop μ-loop
 returns c = sym (all-fails (linkAt (now (c .before .before .before .before .before .args .words))) (c .before .before .before .loop .l) 16 (omega arith) (sym (c .before .link-ok .ensures) ∙ not-true _ (c .if1 .taken)))
 
--- src/lib.rt:148:9
 add-l : tie.Need-add-l Inv-loop μ-loop
 add-l c = omega arith
 
--- src/lib.rt:144:5
 loop-less : tie.Need-loop-less Inv-loop μ-loop
 loop-less c = omega arith
 
--- src/lib.rt:144:5
 loop-again : tie.Need-loop-again Inv-loop μ-loop
 loop-again c = (omega arith, all-more (linkAt (now (c .before .before .before .before .before .args .words))) (c .before .before .before .loop .l) (c .before .before .before .loop .inv .1) (sym (c .before .link-ok .ensures) ∙ not-false _ (c .if1 .left)))
 
--- src/lib.rt:139:1
 returns-2 : tie.Need-returns-2 Inv-loop μ-loop
 returns-2 c =
     let e : c .before .loop .l ≡ 16 = omega arith in

@@ -15,74 +15,60 @@ use Rattle.tables.specs.Tables.{links, blocksIn, reserve, cap, count, un
 use Rattle.tables.proofs.Laws.{sum-none, sum-next, settings, link, link-of, link-is, idle-is, counts-low, product}
 use Rattle.tables.proofs.settings_ok.Statement.{statement}
 use Rattle.tables.proofs.settings_ok.Tie as tie
-use Rattle.tables.proofs.settings_ok.Reads as reads
-use Rattle.tables.proofs.settings_ok.Lts as lts
 
--- src/lib.rt:20:13
 shared-slice-read-n : tie.Need-shared-slice-read-n
 shared-slice-read-n c = search needs
 
--- src/lib.rt:21:13
 shared-slice-read-b : tie.Need-shared-slice-read-b
 shared-slice-read-b c = search needs
 
--- src/lib.rt:22:13
 shared-slice-read-r : tie.Need-shared-slice-read-r
 shared-slice-read-r c = search needs
 
--- src/lib.rt:23:13
 shared-slice-read-c : tie.Need-shared-slice-read-c
 shared-slice-read-c c = search needs
 
--- src/lib.rt:25:9
 returns : tie.Need-returns
 unfolding settingsOk
 returns c =
     let w = now (c .before .before .before .before .before .args .words) in
     rw (lt-leb 1 (links w) (c .if1 .taken))
 
--- src/lib.rt:28:9
 returns-2 : tie.Need-returns-2
 unfolding settingsOk
 returns-2 c =
     let w = now (c .before .before .before .before .before .before .args .words) in
     rw (le-leb 1 (links w) (c .before .if1 .left), lt-leb (links w) 16 (c .if2 .taken))
 
--- src/lib.rt:31:9
 returns-3 : tie.Need-returns-3
 unfolding settingsOk
 returns-3 c =
     let w = now (c .before .before .before .before .before .before .before .args .words) in
     rw (le-leb 1 (links w) (c .before .before .if1 .left), le-leb (links w) 16 (c .before .if2 .left), lt-leb 1 (blocksIn w) (c .if3 .taken))
 
--- src/lib.rt:34:9
 returns-4 : tie.Need-returns-4
 unfolding settingsOk
 returns-4 c =
     let w = now (c .before .before .before .before .before .before .before .before .args .words) in
     rw (le-leb 1 (links w) (c .before .before .before .if1 .left), le-leb (links w) 16 (c .before .before .if2 .left), le-leb 1 (blocksIn w) (c .before .if3 .left), lt-leb (blocksIn w) 1024 (c .if4 .taken))
 
--- src/lib.rt:37:9
 returns-5 : tie.Need-returns-5
 unfolding settingsOk
 returns-5 c =
     let w = now (c .before .before .before .before .before .before .before .before .before .args .words) in
     rw (le-leb 1 (links w) (c .before .before .before .before .if1 .left), le-leb (links w) 16 (c .before .before .before .if2 .left), le-leb 1 (blocksIn w) (c .before .before .if3 .left), le-leb (blocksIn w) 1024 (c .before .if4 .left), lt-leb (cap w) (blocksIn w) (c .if5 .taken))
 
--- src/lib.rt:40:9
 returns-6 : tie.Need-returns-6
 unfolding settingsOk
 returns-6 c =
     let w = now (c .before .before .before .before .before .before .before .before .before .before .args .words) in
     rw (le-leb 1 (links w) (c .before .before .before .before .before .if1 .left), le-leb (links w) 16 (c .before .before .before .before .if2 .left), le-leb 1 (blocksIn w) (c .before .before .before .if3 .left), le-leb (blocksIn w) 1024 (c .before .before .if4 .left), le-leb (cap w) (blocksIn w) (c .before .if5 .left), lt-leb (reserve w) (cap w) (c .if6 .taken))
 
--- src/lib.rt:42:5
 mul-result : tie.Need-mul-result
 mul-result c =
     let w = now (c .before .before .before .before .before .before .before .before .before .before .args .words) in
     omega (arith, product (links w) (reserve w) (omega arith) (omega arith))
 
--- src/lib.rt:16:1
 returns-7 : tie.Need-returns-7
 unfolding settingsOk
 returns-7 c =

@@ -16,66 +16,49 @@ use Rattle.tables.proofs.Laws.{sum-none, sum-next, settings, link, link
 use Rattle.tables.proofs.Laws.{short, no-settings, no-links, common}
 use Rattle.tables.proofs.tables_ok.Statement.{statement}
 use Rattle.tables.proofs.tables_ok.Tie as tie
-use Rattle.tables.proofs.tables_ok.Reads as reads
-use Rattle.tables.proofs.tables_ok.Lts as lts
-use Rattle.tables.proofs.excess.Reads as excess-reads
-use Rattle.tables.proofs.links_ok.Reads as links-ok-reads
-use Rattle.tables.proofs.settings_ok.Reads as settings-ok-reads
 
--- src/lib.rt:189:9
 returns : tie.Need-returns
 returns c = sym (short (now (c .before .before .args .words)) (c .if1 .taken))
 
--- src/lib.rt:191:9
 settings-ok-requires : tie.Need-settings-ok-requires
 settings-ok-requires c κs = search needs
 
--- src/lib.rt:192:9
 returns-2 : tie.Need-returns-2
 returns-2 c = sym (no-settings (now (c .before .before .before .before .args .words)) (c .before .before .if1 .left) (sym (c .before .settings-ok .ensures) ∙ not-true _ (c .if2 .taken)))
 
--- src/lib.rt:194:9
 links-ok-requires : tie.Need-links-ok-requires
 links-ok-requires c κs = search needs
 
--- src/lib.rt:195:9
 returns-3 : tie.Need-returns-3
 returns-3 c = sym (no-links (now (c .before .before .before .before .before .before .args .words)) (c .before .before .before .before .if1 .left) (sym (c .before .before .before .settings-ok .ensures) ∙ not-false _ (c .before .before .if2 .left)) (sym (c .before .links-ok .ensures) ∙ not-true _ (c .if3 .taken)))
 
--- src/lib.rt:197:13
 shared-slice-read-n : tie.Need-shared-slice-read-n
 shared-slice-read-n c = search needs
 
--- src/lib.rt:198:13
 shared-slice-read-r : tie.Need-shared-slice-read-r
 shared-slice-read-r c = search needs
 
--- src/lib.rt:199:9
 excess-requires : tie.Need-excess-requires
 excess-requires c κs =
     let w = now (c .before .before .before .before .before .before .before .before .args .words) in
     let s : settingsOk w ≡ true = sym (c .before .before .before .before .before .settings-ok .ensures) ∙ not-false _ (c .before .before .before .before .if2 .left) in
     (settings w s .few-links, c .before .before .before .before .before .before .if1 .left, s, sym (c .before .before .before .links-ok .ensures) ∙ not-false _ (c .before .before .if3 .left))
 
--- src/lib.rt:200:10
 shared-slice-read-result : tie.Need-shared-slice-read-result
 shared-slice-read-result c = search needs
 
--- src/lib.rt:200:21
 mul-result : tie.Need-mul-result
 mul-result c =
     let w = now (c .before .before .before .before .before .before .before .before .before .before .args .words) in
     let q = settings w (sym (c .before .before .before .before .before .before .before .settings-ok .ensures) ∙ not-false _ (c .before .before .before .before .before .before .if2 .left)) in
     omega (arith, q .cover, q .few-blocks)
 
--- src/lib.rt:200:10
 sub-result : tie.Need-sub-result
 sub-result c =
     let w = now (c .before .before .before .before .before .before .before .before .before .before .args .words) in
     let q = settings w (sym (c .before .before .before .before .before .before .before .settings-ok .ensures) ∙ not-false _ (c .before .before .before .before .before .before .if2 .left)) in
     q .cover
 
--- src/lib.rt:185:1
 returns-4 : tie.Need-returns-4
 returns-4 c =
     let w = now (c .before .before .before .before .before .before .before .before .before .before .args .words) in

@@ -15,8 +15,6 @@ use Rattle.tables.specs.Tables.{links, blocksIn, reserve, cap, count, un
 use Rattle.tables.proofs.Laws.{sum-none, sum-next, settings, link, link-of, link-is, idle-is, counts-low, product}
 use Rattle.tables.proofs.used.Statement.{statement}
 use Rattle.tables.proofs.used.Tie as tie
-use Rattle.tables.proofs.used.Reads as reads
-use Rattle.tables.proofs.used.Lts as lts
 
 abbrev Inv-loop : tie.InvT-loop
 Inv-loop words n sum₀ l₀ sum l = (l ≤ n) × (sum ≡ usedOf words l) × (sum ≤ 1024 * l)
@@ -24,37 +22,29 @@ Inv-loop words n sum₀ l₀ sum l = (l ≤ n) × (sum ≡ usedOf words l) × (s
 abbrev μ-loop : tie.MeasureT-loop
 μ-loop words n sum₀ l₀ sum l = n - l
 
--- src/lib.rt:160:5
 loop-holds : tie.Need-loop-holds Inv-loop μ-loop
 loop-holds c = (omega arith, sym (sum-none (count (now (c .args .words)))), omega arith)
 
--- src/lib.rt:161:22
 add-sum : tie.Need-add-sum Inv-loop μ-loop
 add-sum c = omega arith
 
--- src/lib.rt:161:16
 mul-sum : tie.Need-mul-sum Inv-loop μ-loop
 mul-sum c = omega arith
 
--- src/lib.rt:161:16
 shared-slice-read-sum : tie.Need-shared-slice-read-sum Inv-loop μ-loop
 shared-slice-read-sum c = omega arith
 
--- src/lib.rt:161:9
 add-sum-2 : tie.Need-add-sum-2 Inv-loop μ-loop
 add-sum-2 c =
     let w = now (c .before .before .before .args .words) in
     omega (arith, counts-low w (c .before .before .before .pre .2) (c .before .before .before .pre .3) (c .before .before .loop .l) (omega arith))
 
--- src/lib.rt:162:9
 add-l : tie.Need-add-l Inv-loop μ-loop
 add-l c = omega arith
 
--- src/lib.rt:160:5
 loop-less : tie.Need-loop-less Inv-loop μ-loop
 loop-less c = omega arith
 
--- src/lib.rt:160:5
 loop-again : tie.Need-loop-again Inv-loop μ-loop
 loop-again c =
     let w = now (c .before .before .before .args .words) in
@@ -63,7 +53,6 @@ loop-again c =
     let k = counts-low w (c .before .before .before .pre .2) (c .before .before .before .pre .3) l (omega arith) in
     (omega arith, omega (arith, n), omega (arith, k))
 
--- src/lib.rt:154:1
 returns : tie.Need-returns Inv-loop μ-loop
 returns c =
     let e : c .before .loop .l ≡ c .before .before .args .n = omega arith in

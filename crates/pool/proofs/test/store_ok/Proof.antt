@@ -17,51 +17,39 @@ use Rattle.pool.proofs.Good.{Good, good, good-of}
 use Rattle.pool.proofs.Good.{bad-tables, bad-times, bad-list, bad-home, bad-room, last}
 use Rattle.pool.proofs.test.store_ok.Statement.{statement}
 use Rattle.pool.proofs.test.store_ok.Tie as tie
-use Rattle.pool.proofs.test.store_ok.Reads as reads
-use Rattle.pool.proofs.test.store_ok.Lts as lts
-use Rattle.chain.proofs.homed_ok.Reads as homed-ok-reads
-use Rattle.tables.proofs.tables_ok.Reads as tables-ok-reads
-use Rattle.tables.proofs.used.Reads as used-reads
 
--- src/lib.rt:13:9
 tables-ok-requires : tie.Need-tables-ok-requires
 tables-ok-requires c κs = search needs
 
--- src/lib.rt:14:9
 returns : tie.Need-returns
 returns c =
     let a = c .before .before .before .before .before .before .before .args in
     sym (bad-tables (now (a .words)) (now (a .times)) (now (a .list)) (now (a .home)) (now (a .blocks)) (sym (c .before .tables-ok .ensures) ∙ not-true _ (c .if1 .taken)))
 
--- src/lib.rt:17:9
 returns-2 : tie.Need-returns-2
 returns-2 c =
     let a = c .before .before .before .before .before .before .before .before .args in
     let k : tablesOk (now (a .words)) ≡ true = sym (c .before .before .tables-ok .ensures) ∙ not-false _ (c .before .if1 .left) in
     sym (bad-times (now (a .words)) (now (a .times)) (now (a .list)) (now (a .home)) (now (a .blocks)) k (c .if2 .taken))
 
--- src/lib.rt:19:13
 shared-slice-read-b : tie.Need-shared-slice-read-b
 shared-slice-read-b c =
     let a = c .before .before .before .before .before .before .before .before .before .args in
     let k = tables (now (a .words)) (sym (c .before .before .before .tables-ok .ensures) ∙ not-false _ (c .before .before .if1 .left)) in
     omega (arith, k .long)
 
--- src/lib.rt:21:9
 returns-3 : tie.Need-returns-3
 returns-3 c =
     let a = c .before .before .before .before .before .before .before .before .before .before .args in
     let k : tablesOk (now (a .words)) ≡ true = sym (c .before .before .before .before .tables-ok .ensures) ∙ not-false _ (c .before .before .before .if1 .left) in
     sym (bad-list (now (a .words)) (now (a .times)) (now (a .list)) (now (a .home)) (now (a .blocks)) k (c .before .before .if2 .left) (c .if3 .taken))
 
--- src/lib.rt:24:9
 returns-4 : tie.Need-returns-4
 returns-4 c =
     let a = c .before .before .before .before .before .before .before .before .before .before .before .args in
     let k : tablesOk (now (a .words)) ≡ true = sym (c .before .before .before .before .before .tables-ok .ensures) ∙ not-false _ (c .before .before .before .before .if1 .left) in
     sym (bad-home (now (a .words)) (now (a .times)) (now (a .list)) (now (a .home)) (now (a .blocks)) k (c .before .before .before .if2 .left) (c .before .if3 .left) (c .if4 .taken))
 
--- src/lib.rt:26:23
 mul-if5 : tie.Need-mul-if5
 mul-if5 c =
     let a = c .before .before .before .before .before .before .before .before .before .before .before .args in
@@ -69,35 +57,30 @@ mul-if5 c =
     let q = settings (now (a .words)) (k .set) in
     omega (arith, q .few-blocks)
 
--- src/lib.rt:27:9
 returns-5 : tie.Need-returns-5
 returns-5 c =
     let a = c .before .before .before .before .before .before .before .before .before .before .before .before .args in
     let k : tablesOk (now (a .words)) ≡ true = sym (c .before .before .before .before .before .before .tables-ok .ensures) ∙ not-false _ (c .before .before .before .before .before .if1 .left) in
     sym (bad-room (now (a .words)) (now (a .times)) (now (a .list)) (now (a .home)) (now (a .blocks)) k (c .before .before .before .before .if2 .left) (c .before .before .if3 .left) (c .before .if4 .left) (c .if5 .taken))
 
--- src/lib.rt:29:13
 shared-slice-read-n : tie.Need-shared-slice-read-n
 shared-slice-read-n c =
     let a = c .before .before .before .before .before .before .before .before .before .before .before .before .before .args in
     let k = tables (now (a .words)) (sym (c .before .before .before .before .before .before .before .tables-ok .ensures) ∙ not-false _ (c .before .before .before .before .before .before .if1 .left)) in
     omega (arith, k .long)
 
--- src/lib.rt:30:9
 used-requires : tie.Need-used-requires
 used-requires c κs =
     let a = c .before .before .before .before .before .before .before .before .before .before .before .before .before .args in
     let k = tables (now (a .words)) (sym (c .before .before .before .before .before .before .before .tables-ok .ensures) ∙ not-false _ (c .before .before .before .before .before .before .if1 .left)) in
     (settings (now (a .words)) (k .set) .few-links, k .long, k .set, k .each)
 
--- src/lib.rt:31:5
 homed-ok-requires : tie.Need-homed-ok-requires
 homed-ok-requires c κs =
     let a = c .before .before .before .before .before .before .before .before .before .before .before .before .before .before .args in
     let k = tables (now (a .words)) (sym (c .before .before .before .before .before .before .before .before .tables-ok .ensures) ∙ not-false _ (c .before .before .before .before .before .before .before .if1 .left)) in
     (omega (arith, c .used .ensures, used-fits (now (a .words)) k, c .before .before .before .before .if3 .left), c .before .before .before .if4 .left)
 
--- src/lib.rt:10:1
 returns-6 : tie.Need-returns-6
 returns-6 c =
     let a = c .before .before .before .before .before .before .before .before .before .before .before .before .before .before .before .args in

@@ -6,13 +6,12 @@ use native.Mathlib.Omega.{arith}
 use lib.ListN.{length, take}
 use lib.Ieee.{Float}
 use denote.Ref.{now}
-use Rattle.model.specs.Cost.{blocks as blocksFor}
 use Rattle.chain.specs.Chain.{homed, flat, Spliced}
 use Rattle.tables.specs.Tables.{links, blocksIn, word, usedOf}
 use Rattle.tables.proofs.Laws.{tables-of}
 use Rattle.pool.specs.View.{sound, pend, startOf, partAt, spliceWords, spliced, SameSettings}
 use Rattle.pool.proofs.Good.{Good, good, good-of}
-use Rattle.pool.proofs.Near.{Ready, ready, room-fits}
+use Rattle.pool.proofs.Near.{Ready, ready, room-fits, begins}
 use Rattle.pool.proofs.Parts.{settings-kept, spliced-good, spliced-pend}
 use borrow.Author.Needs.{needs}
 use Rattle.pool.proofs.unit.splice.Statement.{statement}
@@ -23,11 +22,6 @@ gd c = good (now (c .args .words)) (now (c .args .times)) (now (c .args .list)) 
 
 rd : (c : tie.Start) → Ready (now (c .args .words)) (c .args .l) (c .args .j) (c .args .part)
 rd c = ready (now (c .args .words)) (c .args .l) (c .args .j) (c .args .part) (gd c .tab) (c .pre .1 .0 .0) (c .pre .1 .0 .1) (c .pre .1 .0 .2)
-
--- where the part stands, by the two calls
-at-is : (c : tie.Start) (s a : ℕ) → s ≡ startOf (now (c .args .words)) (c .args .l) (c .args .j) → a ≡ s + partAt (now (c .args .words)) (8 * c .args .l + c .args .j) (c .args .part)
-    → a ≡ startOf (now (c .args .words)) (c .args .l) (c .args .j) + partAt (now (c .args .words)) (8 * c .args .l + c .args .j) (c .args .part)
-at-is c s a e f = f ∙ ap (λ (q : ℕ). q + partAt (now (c .args .words)) (8 * c .args .l + c .args .j) (c .args .part)) e
 
 slice-read-b : tie.Need-slice-read-b
 slice-read-b c = omega (arith, rd (c .before .before .before .before .before .before .before))
@@ -94,7 +88,7 @@ splice-requires c κs =
     let g = gd s in
     let r = rd s in
     let u = c .before .before .before .before .before .before .before .before .used .ensures in
-    let at = at-is s (c .before .before .before .before .before .before .start-of .result) (c .before .before .before .before .part-start .result) (c .before .before .before .before .before .before .start-of .ensures .0) (c .before .before .before .before .part-start .ensures) in
+    let at = begins (now (s .args .words)) (s .args .l) (s .args .j) (s .args .part) (c .before .before .before .before .before .before .start-of .result) (c .before .before .before .before .part-start .result) (c .before .before .before .before .before .before .start-of .ensures .0) (c .before .before .before .before .part-start .ensures) in
     let f = room-fits w (a .l) (word w (8 * a .l + a .j) (9 + a .part)) (blocksFor (a .d + length (now (a .src)))) (g .tab) (s .pre .1 .0 .0) (r .counted) (s .pre .1 .1) in (
       (omega (arith, u, at, r .inside), omega (arith, u, f), omega (arith, u, r .close .fits), r .close .few-blocks, g .listed, g .homes, ap (homed (now (a .home)) (now (a .list)) (blocksIn w)) u ∙ g .chain),
       (g .room, omega (arith, r .filled, s .pre .1 .0), omega arith),
@@ -126,7 +120,7 @@ returns c =
     let tm = now (a .times) in
     let g = gd s in
     let u = c .before .before .before .before .before .before .before .before .before .before .before .before .before .before .before .before .before .before .before .used .ensures in
-    let at = at-is s (c .before .before .before .before .before .before .before .before .before .before .before .before .before .before .before .before .before .start-of .result) (c .before .before .before .before .before .before .before .before .before .before .before .before .before .before .before .part-start .result) (c .before .before .before .before .before .before .before .before .before .before .before .before .before .before .before .before .before .start-of .ensures .0) (c .before .before .before .before .before .before .before .before .before .before .before .before .before .before .before .part-start .ensures) in
+    let at = begins (now (s .args .words)) (s .args .l) (s .args .j) (s .args .part) (c .before .before .before .before .before .before .before .before .before .before .before .before .before .before .before .before .before .start-of .result) (c .before .before .before .before .before .before .before .before .before .before .before .before .before .before .before .part-start .result) (c .before .before .before .before .before .before .before .before .before .before .before .before .before .before .before .before .before .start-of .ensures .0) (c .before .before .before .before .before .before .before .before .before .before .before .before .before .before .before .part-start .ensures) in
     let k = word w (8 * a .l + a .j) (9 + a .part) in
     let n = blocksFor (a .d + length (now (a .src))) in
     let list' = c .before .before .before .before .before .before .before .before .before .before .splice .last .0 in
