@@ -23,7 +23,7 @@ determined {size} {xs} {old} p q =
     (e, p .output ∙ ap (λ (a : Answer). outputOf a xs old) e ∙ sym (q .output))
 
 -- the place behind what was put at the start is its length, where that is no more than the output's
-placed : {old new xs : List ℕ} {n : ℕ} → Emits old 0 xs new n → n ≤ length old → n < top → n ≡ length xs
+placed : {old new xs : List ℕ} {n : ℕ} → Emits old 0 xs new n → n ≤ length old → length old < top → n ≡ length xs
 unfolding onFrom
 placed e h l = omega (arith, e .place)
 
@@ -43,7 +43,7 @@ module _ {size : ℕ} {xs old : List ℕ} where
   unreadable h e = record { answer = simp (le-ltb _ _ h, e); output = refl }
 
   -- ys, which are xs, were put into o, which is old
-  pub whole : {new o ys : List ℕ} {k : ℕ} → size ≤ 65535 → o ≡ old → ys ≡ xs → 0 < k → k ≤ length old → k < top → Emits o 0 ys new k → Parsed size xs old (Whole k) new
+  pub whole : {new o ys : List ℕ} {k : ℕ} → size ≤ 65535 → o ≡ old → ys ≡ xs → 0 < k → k ≤ length old → length old < top → Emits o 0 ys new k → Parsed size xs old (Whole k) new
   unfolding answerTo
   whole {new} {o} {ys} {k} h eo ey p l b e =
       let e′ = subst (λ (z : List ℕ). Emits old 0 z new k) ey (subst (λ (z : List ℕ). Emits z 0 ys new k) eo e) in

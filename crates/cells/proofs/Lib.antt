@@ -1,5 +1,6 @@
 pub mod Packs
 pub mod Rows
+pub mod Leaves
 pub mod Classes
 pub mod Complete
 pub mod Sound

@@ -1,24 +1,22 @@
 -- Cells that are read as a tree are the cells of that tree, and it is a good one.
 use mathlib.Core.Path.{_≡_, refl, sym, ap, _∙_, subst}
 use mathlib.Core.List.{List, [], _∷_, _++_, append-assoc}
-use mathlib.Core.Bool.{Bool, true, false, _&&_}
+use mathlib.Core.Bool.{Bool, true, false}
 use mathlib.Core.Option.{Option, none, some}
 use Prim.Native.Nat.{ℕ, zero, suc, _+_, _*_, _/_, _%_, _≤_, _<_}
 use native.Mathlib.Decide.{ℕ-discrete}
 use native.Mathlib.Omega.{arith}
-use borrow.Author.Tests.{ne-eqb, eq-eqb, eqb-true, ltb-true, leb-true}
-use lib.Dec.{eqb, ltb, leb}
-use Rattle.octets.proofs.Tests.{and-left, and-right}
-use Rattle.names.specs.Numbers.{lastText}
+use borrow.Author.Tests.{ne-eqb, eq-eqb}
 use Rattle.cells.specs.Cell.{cellOf, fieldOf, formOf, depthOf, lenOf, valueOf, fNumber, fFlag, fPart, fText, fPrefix, fOctet, fWord}
 use Rattle.cells.specs.Items as items
 use Rattle.cells.specs.Items.{Leaf, Items, leaf, group, _⊕_, recordOf, leafCell, openForm, openCell, closeCell, flat}
-use Rattle.cells.specs.Read.{fieldOk, below, textOk, prefixOk, leafOk, leafOf, leafIn, bare, classOf, Stack, root, push, height, going, done, closed, turn, step, andThen, read, itemsOf}
+use Rattle.cells.specs.Read.{leafOk, leafOf, leafIn, bare, classOf, Stack, root, push, height, going, done, closed, turn, step, andThen, read, itemsOf}
 use Rattle.cells.specs.Good.{Key, GoodLeaf, GoodRow, Good}
 use Rattle.cells.specs.declared.class.Class.{Class}
 use Rattle.cells.specs.declared.class.Class.the-variants.{Leafy, Object, Entries, Close, Bad}
 use Rattle.cells.proofs.Packs.{whole, value-low, depth-low}
 use Rattle.cells.proofs.Rows.{flat-⊕, good-⊕}
+use Rattle.cells.proofs.Leaves.{number-is, flag-is, part-is, text-is, prefix-is, octet-is, word-is}
 use Rattle.cells.proofs.Classes.{opening, ok-key, bare-is, class-leaf, class-open, class-close, open-low}
 
 -- a leaf that was read packs to what it was read from, and is good
@@ -28,42 +26,35 @@ record Back (n d f form len v : ℕ) : Type 0 where
 
 module _ (n d f len v : ℕ) (hv : v < 4294967296) where
   at-number : leafOk n fNumber len v ≡ true → Back n d f fNumber len v
-  unfolding leafCell leafOk leafOf
-  at-number t = let z : len ≡ 0 = eqb-true len 0 t in record { cell = rw z; good = hv }
+  unfolding leafCell leafOf
+  at-number t = record { cell = rw (number-is n len v t); good = hv }
 
   at-flag : leafOk n fFlag len v ≡ true → Back n d f fFlag len v
-  unfolding leafCell leafOk leafOf below
-  at-flag t =
-      let z : len ≡ 0 = eqb-true len 0 (and-left (eqb len 0) (ltb v 2) t) in
-      record { cell = rw z; good = ltb-true v 2 (and-right (eqb len 0) (ltb v 2) t) }
+  unfolding leafCell leafOf
+  at-flag t = let w = flag-is n len v t in record { cell = rw (w .0); good = w .1 }
 
   at-part : leafOk n fPart len v ≡ true → Back n d f fPart len v
-  unfolding leafCell leafOk leafOf
-  at-part t = record { cell = refl; good = leb-true (v + len) n t }
+  unfolding leafCell leafOf
+  at-part t = record { cell = refl; good = part-is n len v t }
 
   at-text : leafOk n fText len v ≡ true → Back n d f fText len v
-  unfolding leafCell leafOk leafOf textOk
-  at-text t =
-      let z : len ≡ 0 = eqb-true len 0 (and-left (eqb len 0) (ltb 0 v && leb v lastText) t) in
-      let w = and-right (eqb len 0) (ltb 0 v && leb v lastText) t in
-      record { cell = rw z; good = (ltb-true 0 v (and-left (ltb 0 v) (leb v lastText) w), leb-true v lastText (and-right (ltb 0 v) (leb v lastText) w)) }
+  unfolding leafCell leafOf
+  at-text t = let w = text-is n len v t in record { cell = rw (w .0); good = (w .1, w .2) }
 
   at-prefix : leafOk n fPrefix len v ≡ true → Back n d f fPrefix len v
-  unfolding leafCell leafOk leafOf prefixOk
+  unfolding leafCell leafOf
   at-prefix t =
       let z : v / 256 * 256 + v % 256 ≡ v = omega arith in
-      let l : len ≡ (v % 256 + 7) / 8 = eqb-true len ((v % 256 + 7) / 8) (and-left (eqb len ((v % 256 + 7) / 8)) (leb (v / 256 + len) n) t) in
-      record { cell = rw z; good = (omega arith, l, leb-true (v / 256 + len) n (and-right (eqb len ((v % 256 + 7) / 8)) (leb (v / 256 + len) n) t)) }
+      let w = prefix-is n len v t in
+      record { cell = rw z; good = (omega arith, w .0, w .1) }
 
   at-octet : leafOk n fOctet len v ≡ true → Back n d f fOctet len v
-  unfolding leafCell leafOk leafOf below
-  at-octet t =
-      let z : len ≡ 0 = eqb-true len 0 (and-left (eqb len 0) (ltb v 256) t) in
-      record { cell = rw z; good = ltb-true v 256 (and-right (eqb len 0) (ltb v 256) t) }
+  unfolding leafCell leafOf
+  at-octet t = let w = octet-is n len v t in record { cell = rw (w .0); good = w .1 }
 
   at-word : leafOk n fWord len v ≡ true → Back n d f fWord len v
-  unfolding leafCell leafOk leafOf
-  at-word t = let z : len ≡ 0 = eqb-true len 0 t in record { cell = rw z; good = hv }
+  unfolding leafCell leafOf
+  at-word t = record { cell = rw (word-is n len v t); good = hv }
 
   module _ (form : ℕ) (t : leafOk n form len v ≡ true) where
     with-form : (m : ℕ) → form ≡ m → (leafOk n m len v ≡ true → Back n d f m len v) → Back n d f form len v
