@@ -79,3 +79,15 @@ not-ten false false k h = omega (arith, h)
 pub enough : (n : ℕ) (xs : List ℕ) (room : ℕ) → length xs ≤ room → numberOf (answerTo n xs room) ≡ 10 → ⊥
 unfolding answerTo
 enough n xs room h e = not-ten (ltb 65535 n) (eqb (length xs) 0) (length xs) (simp (le-leb (length xs) room h) at e)
+
+-- an input with a result is not unreadable
+not-fifteen : (a b : Bool) (k : ℕ) → numberOf (pick a TooLong (pick b (Whole k) Short)) ≡ 15 → ⊥
+not-fifteen true b k h = omega (arith, h)
+not-fifteen false true k h = omega (arith, h)
+not-fifteen false false k h = omega (arith, h)
+
+pub readable : (n : ℕ) (xs : List ℕ) (room : ℕ) → 0 < length xs → numberOf (answerTo n xs room) ≡ 15 → ⊥
+unfolding answerTo
+readable n xs room h e =
+    let f : length xs ≡ 0 → ⊥ = λ z. omega (arith, z) in
+    not-fifteen (ltb 65535 n) (leb (length xs) room) (length xs) (simp (ne-eqb (length xs) 0 f) at e)

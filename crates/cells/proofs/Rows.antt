@@ -2,11 +2,13 @@
 use mathlib.Core.Path.{_≡_, refl, sym, ap, _∙_}
 use mathlib.Core.List.{List, [], _∷_, _++_, append-assoc}
 use mathlib.Core.Bool.{Bool, true, false}
-use Prim.Native.Nat.{ℕ, _+_}
+use Prim.Native.Nat.{ℕ, _+_, _≤_, _<_}
+use native.Mathlib.Omega.{arith}
+use lib.ListN.{length, length-append}
 use Rattle.octets.specs.Emit.{Emits}
 use Rattle.octets.proofs.Emits.{then, emits-as}
-use Rattle.cells.specs.Items.{Items, none, leaf, group, _⊕_, openCell, closeCell, flat}
-use Rattle.cells.specs.Good.{GoodRow}
+use Rattle.cells.specs.Items.{Items, none, leaf, group, _⊕_, inList, openCell, closeCell, flat}
+use Rattle.cells.specs.Good.{Key, GoodRow}
 
 pub ⊕-none : (xs : Items) → xs ⊕ none ≡ xs
 ⊕-none none = refl
@@ -46,3 +48,21 @@ pub good-⊕ : (n : ℕ) (k : Bool) (d : ℕ) (xs ys : Items) → GoodRow n k d 
 good-⊕ n k d none ys g h = h
 good-⊕ n k d (leaf f v xs) ys g h = (g .0, g .1, g .2, good-⊕ n k d xs ys (g .3) h)
 good-⊕ n k d (group o f is xs) ys g h = (g .0, g .1, g .2, good-⊕ n k d xs ys (g .3) h)
+
+-- a list under a key is good where its entries are, and has at most two cells more than they have
+pub good-in-list : (n : ℕ) (k : Bool) (d f : ℕ) (xs : Items) → d < 16 → Key k f → GoodRow n false (d + 1) xs → GoodRow n k d (inList f xs)
+good-in-list n k d f none h q g = tt
+good-in-list n k d f (leaf e v xs) h q g = (h, q, g, tt)
+good-in-list n k d f (group o e is xs) h q g = (h, q, g, tt)
+
+pub group-size : (d : ℕ) (g : Bool) (f : ℕ) (is : Items) → length (flat d (group g f is none)) ≡ length (flat (d + 1) is) + 2
+group-size d g f is = rw (flat-group d g f is, length-append, length-append) (omega arith)
+
+pub in-list-thin : (d f : ℕ) (xs : Items) → length (flat d (inList f xs)) ≤ length (flat (d + 1) xs) + 2
+in-list-thin d f none = rw (flat-none d, flat-none (d + 1)) (omega arith)
+in-list-thin d f (leaf e v xs) =
+    let w : length (flat d (inList f (leaf e v xs))) ≡ length (flat (d + 1) (leaf e v xs)) + 2 = group-size d false f (leaf e v xs) in
+    omega (arith, w)
+in-list-thin d f (group o e is xs) =
+    let w : length (flat d (inList f (group o e is xs))) ≡ length (flat (d + 1) (group o e is xs)) + 2 = group-size d false f (group o e is xs) in
+    omega (arith, w)

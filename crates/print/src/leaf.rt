@@ -86,8 +86,8 @@ fn put_prefix(out: &mut [u8], at: usize, input: &[u8], from: usize, size: usize,
     ensures { λ r. ⌜ Emits (now (out .entry)) at (leafText (now (input .entry)) (prefix from size bits)) (now (out .exit)) r ⌝ }
 {
     let quoted = put_octet(out, at, b'"');
-    let shown = put_hex_part(out, quoted, input, from, from + size);
-    let slash = put_octet(out, shown, b'/');
+    let digits = put_hex_part(out, quoted, input, from, from + size);
+    let slash = put_octet(out, digits, b'/');
     let counted = put_decimal(out, slash, bits);
     put_octet(out, counted, b'"')
 }
