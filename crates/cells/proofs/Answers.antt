@@ -1,6 +1,6 @@
 -- The four answers, each with what it leaves, and that no other result is possible.
 use Prim.Native.Nat.{ℕ, _+_, _-_, _≤_, _<_}
-use borrow.Author.Tests.{le-ltb, lt-ltb, le-leb, lt-leb, eq-eqb, ne-eqb}
+use borrow.Author.Tests.{le-ltb, lt-ltb, le-leb, lt-leb, ne-eqb}
 use mathlib.Core.List.{List, [], _∷_, _++_}
 use mathlib.Core.Bool.{Bool, true, false}
 use mathlib.Core.Path.{_≡_, refl, _∙_, sym, ap, subst}
@@ -10,9 +10,9 @@ use lib.ListN.{length, take, drop, length-drop}
 use lib.Seq.{take-all}
 use lib.Dec.{ltb, leb, eqb}
 use Rattle.octets.specs.Text.{pick}
-use Rattle.octets.specs.Emit.{put, top, onFrom, Emits}
+use Rattle.octets.specs.Emit.{top, onFrom, Emits}
 use Rattle.octets.proofs.Put.{put-fits}
-use Rattle.cells.specs.Answer.{numberOf, countOf, answerTo, outputOf, Parsed}
+use Rattle.cells.specs.Answer.{numberOf, answerTo, outputOf, Parsed}
 use Rattle.cells.specs.declared.answer.Answer.{Answer}
 use Rattle.cells.specs.declared.answer.Answer.the-variants.{Whole, TooLong, Unreadable, Short}
 

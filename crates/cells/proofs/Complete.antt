@@ -1,17 +1,18 @@
 -- The cells of a good tree are read back as that tree.
-use mathlib.Core.Path.{_≡_, refl, sym, ap, _∙_}
+use mathlib.Core.Path.{_≡_, refl, _∙_}
 use mathlib.Core.List.{List, [], _∷_, _++_, append-assoc}
 use mathlib.Core.Bool.{Bool, true, false}
-use mathlib.Core.Option.{Option, some}
-use Prim.Native.Nat.{ℕ, suc, _+_, _*_, _/_, _%_, _≤_, _<_}
+use mathlib.Core.Option.{some}
+use Prim.Native.Nat.{ℕ, suc, _+_, _*_, _/_, _%_, _<_}
 use native.Mathlib.Omega.{arith}
-use borrow.Author.Tests.{lt-ltb, le-leb, eq-eqb, ne-eqb}
+use borrow.Author.Tests.{lt-ltb, le-leb, eq-eqb}
+use lib.Dec.{eqb}
 use Rattle.names.specs.Numbers.{lastText}
-use Rattle.cells.specs.Cell.{cellOf, fieldOf, formOf, depthOf, lenOf, valueOf, fNumber, fFlag, fPart, fText, fObject, fList, fClose, fPrefix, fOctet, fWord}
+use Rattle.cells.specs.Cell.{cellOf, fieldOf, fNumber, fFlag, fPart, fText, fObject, fList, fClose, fPrefix, fOctet, fWord}
 use Rattle.cells.specs.Items as items
-use Rattle.cells.specs.Items.{Leaf, number, flag, part, text, prefix, octet, word, Items, leaf, group, _⊕_, recordOf, leafCell, openForm, openCell, closeCell, flat}
-use Rattle.cells.specs.Read.{fieldOk, below, textOk, prefixOk, leafOk, leafOf, leafIn, bare, closes, placed, itemClass, classOf, Stack, root, push, height, going, done, turn, step, andThen, read, itemsOf}
-use Rattle.cells.specs.Good.{Key, GoodLeaf, GoodRow, Good}
+use Rattle.cells.specs.Items.{Leaf, number, flag, part, text, prefix, octet, word, Items, leaf, group, _⊕_, recordOf, leafCell, openCell, closeCell, flat}
+use Rattle.cells.specs.Read.{fieldOk, below, textOk, prefixOk, leafOk, leafOf, leafIn, bare, closes, placed, itemClass, classOf, Stack, root, push, height, going, turn, step, andThen, read, itemsOf}
+use Rattle.cells.specs.Good.{GoodLeaf, GoodRow, Good}
 use Rattle.cells.specs.declared.class.Class.{Class}
 use Rattle.cells.specs.declared.class.Class.the-variants.{Leafy, Object, Entries, Close}
 use Rattle.cells.proofs.Packs.{field-back, form-back, depth-back, len-back, value-back}
@@ -26,7 +27,7 @@ record Fine (n : ℕ) (k : Bool) (d f : ℕ) (v : Leaf) (c : ℕ) : Type 0 where
 
 module _ (n : ℕ) (k : Bool) (d f : ℕ) (hd : d < 16) (hf : fieldOk k f ≡ true) where
   -- a leaf of this form, length and value
-  packed : (form len v : ℕ) → form < 16 → len < 65536 → v < 4294967296 → (form ≡ 4 → ⊥) → (form ≡ 5 → ⊥) → (form ≡ 6 → ⊥)
+  packed : (form len v : ℕ) → form < 16 → len < 65536 → v < 4294967296 → eqb form fObject ≡ false → eqb form fList ≡ false → eqb form fClose ≡ false
       → leafOk n form len v ≡ true → Fine n k d f (leafOf form len v) (cellOf f form d len v)
   unfolding classOf placed itemClass
   packed form len v hm hl hv n₄ n₅ n₆ ok =
@@ -36,32 +37,32 @@ module _ (n : ℕ) (k : Bool) (d f : ℕ) (hd : d < 16) (hf : fieldOk k f ≡ tr
       let b₃ = len-back f form d len v hm hd hl hv in
       let b₄ = value-back f form d len v hm hd hl hv in
       record {
-        class = simp (b₀, b₁, b₂, b₃, b₄, ne-eqb form 4 n₄, ne-eqb form 5 n₅, ne-eqb form 6 n₆, hf, ok, eq-eqb d d refl);
+        class = simp (b₀, b₁, b₂, b₃, b₄, n₄, n₅, n₆, hf, ok, eq-eqb d d refl);
         field = b₀;
         value = rw (b₁, b₃, b₄);
       }
 
   fine : n < 65536 → (v : Leaf) → GoodLeaf n v → Fine n k d f v (leafCell d f v)
   unfolding leafCell leafOk below textOk prefixOk leafOf
-  fine small (number v) g = packed fNumber 0 v (omega arith) (omega arith) g (λ e. omega (arith, e)) (λ e. omega (arith, e)) (λ e. omega (arith, e)) refl
+  fine small (number v) g = packed fNumber 0 v (omega arith) (omega arith) g refl refl refl refl
   fine small (flag v) g =
-      packed fFlag 0 v (omega arith) (omega arith) (omega arith) (λ e. omega (arith, e)) (λ e. omega (arith, e)) (λ e. omega (arith, e)) (lt-ltb v 2 g)
+      packed fFlag 0 v (omega arith) (omega arith) (omega arith) refl refl refl (lt-ltb v 2 g)
   fine small (part at len) g =
-      packed fPart len at (omega arith) (omega arith) (omega arith) (λ e. omega (arith, e)) (λ e. omega (arith, e)) (λ e. omega (arith, e))
+      packed fPart len at (omega arith) (omega arith) (omega arith) refl refl refl
       (le-leb (at + len) n g)
   fine small (text v) g =
-      packed fText 0 v (omega arith) (omega arith) (omega (arith, g .1)) (λ e. omega (arith, e)) (λ e. omega (arith, e)) (λ e. omega (arith, e))
+      packed fText 0 v (omega arith) (omega arith) (omega (arith, g .1)) refl refl refl
       (simp (lt-ltb 0 v (g .0), le-leb v lastText (g .1)))
   fine small (prefix at len bits) g =
       let p : (at * 256 + bits) % 256 ≡ bits = omega (arith, g .0) in
       let q : (at * 256 + bits) / 256 ≡ at = omega (arith, g .0) in
       rw (p, q)
       at (packed fPrefix len (at * 256 + bits) (omega arith) (omega (arith, g .2)) (omega (arith, g .0, g .2))
-      (λ e. omega (arith, e)) (λ e. omega (arith, e)) (λ e. omega (arith, e))
+      refl refl refl
       (simp (p, q, eq-eqb len ((bits + 7) / 8) (g .1), le-leb (at + len) n (g .2))))
   fine small (octet v) g =
-      packed fOctet 0 v (omega arith) (omega arith) (omega arith) (λ e. omega (arith, e)) (λ e. omega (arith, e)) (λ e. omega (arith, e)) (lt-ltb v 256 g)
-  fine small (word v) g = packed fWord 0 v (omega arith) (omega arith) g (λ e. omega (arith, e)) (λ e. omega (arith, e)) (λ e. omega (arith, e)) refl
+      packed fOctet 0 v (omega arith) (omega arith) (omega arith) refl refl refl (lt-ltb v 256 g)
+  fine small (word v) g = packed fWord 0 v (omega arith) (omega arith) g refl refl refl refl
 
   class-opens : (g : Bool) → (classOf n k d (openCell d g f) ≡ opening g) × (fieldOf (openCell d g f) ≡ f)
   unfolding classOf placed itemClass bare

@@ -1,6 +1,6 @@
 -- A cell's fields are what it was packed from, and a cell is packed from its fields.
-use mathlib.Core.Path.{_≡_, refl}
-use Prim.Native.Nat.{ℕ, _+_, _*_, _/_, _%_, _<_}
+use mathlib.Core.Path.{_≡_}
+use Prim.Native.Nat.{ℕ, _<_}
 use native.Mathlib.Nat.{div-div-eq-div-mul}
 use native.Mathlib.Omega.{arith}
 use Rattle.cells.specs.Cell.{cellOf, fieldOf, formOf, depthOf, lenOf, valueOf}

@@ -2,14 +2,14 @@
 use mathlib.Core.Path.{_≡_, refl, sym, ap, _∙_, subst}
 use mathlib.Core.List.{List, [], _∷_, _++_, append-assoc}
 use mathlib.Core.Bool.{Bool, true, false}
-use mathlib.Core.Option.{Option, none, some}
-use Prim.Native.Nat.{ℕ, zero, suc, _+_, _*_, _/_, _%_, _≤_, _<_}
+use mathlib.Core.Option.{none, some}
+use Prim.Native.Nat.{ℕ, suc, _+_, _*_, _/_, _%_, _<_}
 use native.Mathlib.Decide.{ℕ-discrete}
 use native.Mathlib.Omega.{arith}
 use borrow.Author.Tests.{ne-eqb, eq-eqb}
 use Rattle.cells.specs.Cell.{cellOf, fieldOf, formOf, depthOf, lenOf, valueOf, fNumber, fFlag, fPart, fText, fPrefix, fOctet, fWord}
 use Rattle.cells.specs.Items as items
-use Rattle.cells.specs.Items.{Leaf, Items, leaf, group, _⊕_, recordOf, leafCell, openForm, openCell, closeCell, flat}
+use Rattle.cells.specs.Items.{Items, leaf, group, _⊕_, recordOf, leafCell, openForm, openCell, closeCell, flat}
 use Rattle.cells.specs.Read.{leafOk, leafOf, leafIn, bare, classOf, Stack, root, push, height, going, done, closed, turn, step, andThen, read, itemsOf}
 use Rattle.cells.specs.Good.{Key, GoodLeaf, GoodRow, Good}
 use Rattle.cells.specs.declared.class.Class.{Class}

@@ -1,12 +1,11 @@
 -- The laws of walks.
 use Prim.Native.Nat.{ℕ, zero, suc, _+_, _*_, _≤_, _<_, _-_}
-use mathlib.Core.List.{List, [], _∷_, _++_}
+use mathlib.Core.List.{[], _++_}
 use mathlib.Core.Path.{_≡_, refl, _∙_, ap, sym, subst}
 use native.Mathlib.Nat.{add-zero, add-suc, suc-add, mul-add}
 use native.Mathlib.Omega.{arith}
-use lib.ListN.{length, length-append}
 use Rattle.cells.specs.Items.{Items, none, _⊕_, flat}
-use Rattle.cells.specs.Walk.{Step, stop, entry, onStep, walkBy, walkFrom, leftFrom, itemsFrom, cellsFrom}
+use Rattle.cells.specs.Walk.{Step, stop, entry, onStep, walkBy, walkFrom, itemsFrom, cellsFrom}
 use Rattle.cells.proofs.Rows.{flat-none, flat-⊕}
 
 module _ {E R : Type 0} (f : ℕ → Step E) (ends : ℕ → R) (more : E → R → R) where

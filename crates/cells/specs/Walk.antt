@@ -1,6 +1,6 @@
 -- A walk over octets by entries: what stands at each entry, up to the first that cannot be given.
 use mathlib.Core.List.{List, [], _++_}
-use Prim.Native.Nat.{ℕ, zero, suc, _+_, _*_, _≤_, _<_, _-_}
+use Prim.Native.Nat.{ℕ, zero, suc, _+_, _-_}
 use Rattle.cells.specs.Items.{Items, none, _⊕_, flat}
 use Rattle.cells.specs.declared.entry.Entry.{Entry}
 use Rattle.cells.specs.declared.entry.Entry.the-variants.{Stop, Body}

@@ -1,12 +1,12 @@
 -- Printing the cells of a good tree, which is what parsers write.
-use mathlib.Core.Path.{_≡_, refl, sym, ap, _∙_}
-use mathlib.Core.List.{List, [], _∷_, _++_}
-use Prim.Native.Nat.{ℕ, _≤_, _<_}
+use mathlib.Core.Path.{_≡_, sym, ap, _∙_}
+use mathlib.Core.List.{List}
+use Prim.Native.Nat.{ℕ, _<_}
 use native.Mathlib.Omega.{arith}
 use lib.ListN.{length}
 use Rattle.cells.specs.Items.{Items, recordOf, flat}
 use Rattle.cells.specs.Good.{Good}
-use Rattle.cells.specs.Answer.{numberOf, answerTo}
+use Rattle.cells.specs.Answer.{numberOf}
 use Rattle.cells.specs.declared.answer.Answer.{Answer}
 use Rattle.cells.proofs.WellFormed.{reads-back}
 use Rattle.cells.proofs.Answers.{readable}

@@ -1,18 +1,17 @@
 -- The answers of `print`, and that no other result is possible.
 use mathlib.Core.Path.{_≡_, refl, sym, ap, _∙_}
-use mathlib.Core.List.{List, [], _∷_, _++_}
+use mathlib.Core.List.{List}
 use mathlib.Core.Option.{none}
-use Prim.Native.Nat.{ℕ, _+_, _≤_, _<_}
+use Prim.Native.Nat.{ℕ, _≤_, _<_}
 use native.Mathlib.Omega.{arith}
-use lib.ListN.{length, length-append}
-use Rattle.octets.specs.Emit.{Emits, onFrom, top}
+use lib.ListN.{length}
+use Rattle.octets.specs.Emit.{onFrom, top}
 use Rattle.cells.specs.Read.{itemsOf}
-use Rattle.cells.specs.Answer.{Parsed}
 use Rattle.cells.specs.declared.answer.Answer.{Answer}
-use Rattle.cells.specs.declared.answer.Answer.the-variants.{Whole, TooLong, Unreadable, Short}
+use Rattle.cells.specs.declared.answer.Answer.the-variants.{Whole, Unreadable, Short}
 use Rattle.cells.proofs.Answers as answers
 use Rattle.print.specs.Json.{jsonOf}
-use Rattle.print.specs.Print.{textIn, printed, Prints}
+use Rattle.print.specs.Print.{printed, Prints}
 use Rattle.print.specs.Outcome.{Written, WholeOutcome}
 use Rattle.print.specs.declared.group.Step.{Step}
 use Rattle.print.specs.declared.group.Step.the-variants.{Printed, Refused}
