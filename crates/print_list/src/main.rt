@@ -216,9 +216,10 @@ fn cut(cells: &mut [u64], out: &mut [u8]) {
 
 fn long_inputs(cells: &mut [u64], out: &mut [u8]) {
     let n = empty(cells);
-    let input = [0u8; 65536];
-    show(cells, n, &input[..65535], out);
-    show(cells, n, &input, out);
+    let longest = [0u8; 65535];
+    let longer = [0u8; 65536];
+    show(cells, n, &longest, out);
+    show(cells, n, &longer, out);
 }
 
 fn records(cells: &mut [u64], out: &mut [u8]) {
