@@ -1,0 +1,4 @@
+pub mod Turns
+pub mod Wholes
+pub mod Says
+pub mod Records
