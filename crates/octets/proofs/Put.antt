@@ -1,12 +1,13 @@
 -- The laws of `put`, which says what a copy and an emitter leave.
 use mathlib.Core.Path.{_≡_, refl, sym, ap, _∙_}
+use mathlib.Core.Logic.{_⊎_, inl, inr}
 use mathlib.Core.List.{List, [], _∷_, _++_, append-assoc}
 use Prim.Native.Nat.{ℕ, zero, suc, _+_, _≤_, _<_}
 use native.Mathlib.Nat.{add-zero, add-suc, suc-add}
 use native.Mathlib.Numerals.{add-one}
 use native.Mathlib.Omega.{arith}
-use lib.ListN.{length, getD, set, take, drop, length-drop}
-use lib.Seq.{sets, sets-eq, length-sets, set-out, take-suc, getD-drop, length-take-le}
+use lib.ListN.{length, getD, set, take, drop, length-drop, length-set}
+use lib.Seq.{getD-set-same, getD-set-other, sets, sets-eq, length-sets, set-out, take-suc, getD-drop, length-take-le}
 use Rattle.octets.specs.Emit.{put}
 
 module _ {A : Type 0} where
@@ -64,3 +65,19 @@ module _ {A : Type 0} where
   put-next-from d s at from j z h =
       let inside : j < length (drop from s) = simp length-drop (omega arith) in
       ap (set (put d at (take j (drop from s))) (at + j)) (sym (getD-drop from s j z)) ∙ put-next d (drop from s) at j z inside
+
+  -- an entry that is not written over, and one that is
+  pub put-other : (s d : List A) (at i : ℕ) (z : A) → (i < at) ⊎ (at + length s ≤ i) → getD (put d at s) i z ≡ getD d i z
+  unfolding put
+  put-other [] d at i z h = refl
+  put-other (x ∷ s) d at i z (inl h) = put-other s (set d at x) (suc at) i z (inl (omega arith)) ∙ getD-set-other d at i x z (λ e. omega (arith, e))
+  put-other (x ∷ s) d at i z (inr h) = put-other s (set d at x) (suc at) i z (inr (omega arith)) ∙ getD-set-other d at i x z (λ e. omega (arith, e))
+
+  pub put-same : (s d : List A) (at k : ℕ) (z : A) → k < length s → at + length s ≤ length d → getD (put d at s) (at + k) z ≡ getD s k z
+  unfolding put
+  put-same [] d at k z h f = absurd (omega arith)
+  put-same (x ∷ s) d at zero z h f =
+      ap (λ (i : ℕ). getD (put d at (x ∷ s)) i z) (add-zero at) ∙ put-other s (set d at x) (suc at) at z (inl (omega arith)) ∙ getD-set-same d at x z (omega arith)
+  put-same (x ∷ s) d at (suc k) z h f =
+      let e : at + suc k ≡ suc at + k = omega arith in
+      ap (λ (i : ℕ). getD (put d at (x ∷ s)) i z) e ∙ put-same s (set d at x) (suc at) k z (omega arith) (omega (arith, length-set d at x))

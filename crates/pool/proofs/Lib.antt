@@ -9,3 +9,4 @@ pub mod Keys
 pub mod Refused
 pub mod Marked
 pub mod Read
+pub mod Added

@@ -8,6 +8,7 @@ use lib.Ieee.{Float, nan}
 use lib.ListN.{length, getD, set, take, drop}
 use Rattle.clock.specs.Time.{freshT}
 use Rattle.octets.specs.Tests.{all}
+use Rattle.octets.specs.Emit.{put}
 use Rattle.model.specs.Cost.{blocks}
 use Rattle.chain.specs.Chain.{homed, flat}
 use Rattle.shift.specs.Shift.{shifted}
@@ -129,9 +130,20 @@ marked st l j note at = withUnit st l j (markedU (unitOf st l j) note at)
 abbrev pub markWords : List ℕ → ℕ → ℕ → ℕ → List ℕ
 markWords w l j note = set w (40 + 12 * (8 * l + j) + 6) note
 
--- a new unit of link l, last in the order of admission
-abbrev pub added : List Units → ℕ → List ℕ → ℕ → Float → List Units
-added st l key note at = set st l (getD st l [] ++ (record { key = key; note = note; time = at; body = []; top = [] } ∷ []))
+-- a unit with no octets
+abbrev pub addedU : List ℕ → ℕ → Float → Unit
+addedU key note at = record { key = key; note = note; time = at; body = []; top = [] }
+
+-- it is a unit of link l, last in the order of admission
+unfoldable pub added : List Units → ℕ → List ℕ → ℕ → Float → List Units
+added st l key note at = set st l (getD st l [] ++ (addedU key note at ∷ []))
+
+-- the words of its place, and the words with that place behind the others of link l
+abbrev pub placeWords : List ℕ → ℕ → List ℕ
+placeWords key note = key ++ (note ∷ 0 ∷ 0 ∷ 0 ∷ 0 ∷ [])
+
+abbrev pub addWords : List ℕ → ℕ → List ℕ → ℕ → List ℕ
+addWords w l key note = set (put w (40 + 12 * (8 * l + units w l)) (placeWords key note)) (24 + l) (units w l + 1)
 
 -- place p has this key
 abbrev pub keyIs : List ℕ → ℕ → List ℕ → Bool

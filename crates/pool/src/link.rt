@@ -4,8 +4,9 @@ ghost use mathlib.Core.Bool.{true};
 ghost use mathlib.Core.List.{[]};
 ghost use Prim.Native.Nat.{_+_, _*_, _-_, _≤_, _<_};
 ghost use lib.ListN.{length, getD};
+ghost use Rattle.octets.specs.Emit.{put};
 ghost use Rattle.tables.specs.Tables.{links, count, units, tablesOk};
-ghost use Rattle.pool.specs.View.{sound, pend, expired, keyIs, Found, refusal, SameSettings};
+ghost use Rattle.pool.specs.View.{sound, pend, expired, keyIs, Found, refusal, placeWords, added, SameSettings};
 use crate::unit::remove;
 
 // The units of link l that are not fresh are taken out.
@@ -103,4 +104,48 @@ pub fn room(words: &[u64], l: usize, u: u64, k: u64, n: u64) -> u64
         return 13;
     }
     2
+}
+
+// Place p has this key and note, and no octets.
+fn set_place(words: &mut [u64], p: usize, key: &[u64], note: u64)
+    requires { ⌜ (p < 128) × (1576 ≤ length (now words)) × (length (now key) ≡ 6) ⌝ }
+    ensures { λ _. ⌜ now (words .exit) ≡ put (now (words .entry)) (40 + 12 * p) (placeWords (now (key .entry)) note) ⌝ }
+{
+    let at = 40 + 12 * p;
+    let mut k: usize = 0;
+    while k < 6 {
+        words[at + k] = key[k];
+        k += 1;
+    }
+    words[at + 6] = note;
+    words[at + 7] = 0;
+    words[at + 8] = 0;
+    words[at + 9] = 0;
+    words[at + 10] = 0;
+}
+
+// A unit with this key, note and time, and no octets, is the last of link l.
+pub fn add(
+    words: &mut [u64],
+    times: &mut [f64],
+    list: &[u16],
+    home: &[u16],
+    blocks: &[u8],
+    l: usize,
+    key: &[u64],
+    note: u64,
+    at: f64,
+)
+    requires { ⌜ sound (now words) (now times) (now list) (now home) (now blocks) ≡ true ⌝ }
+    requires { ⌜ (l < links (now words)) × (units (now words) l < 8) × (length (now key) ≡ 6) ⌝ }
+    requires { ⌜ Found (getD (pend (now words) (now times) (now list) (now blocks)) l []) (now key) (units (now words) l) ⌝ }
+    ensures { λ _. ⌜ sound (now (words .exit)) (now (times .exit)) (now (list .entry)) (now (home .entry)) (now (blocks .entry)) ≡ true ⌝ }
+    ensures { λ _. ⌜ pend (now (words .exit)) (now (times .exit)) (now (list .entry)) (now (blocks .entry)) ≡ added (pend (now (words .entry)) (now (times .entry)) (now (list .entry)) (now (blocks .entry))) l (now (key .entry)) note at ⌝ }
+    ensures { λ _. ⌜ SameSettings (now (words .entry)) (now (words .exit)) ⌝ }
+    ensures { λ _. ⌜ units (now (words .exit)) l ≡ units (now (words .entry)) l + 1 ⌝ }
+{
+    let u = words[24 + l] as usize;
+    set_place(words, 8 * l + u, key, note);
+    words[24 + l] = (u + 1) as u64;
+    times[8 * l + u] = at;
 }

@@ -6,6 +6,7 @@ use native.Mathlib.Omega.{arith}
 use lib.ListN.{length, take}
 use lib.Ieee.{Float}
 use denote.Ref.{now}
+use Rattle.model.specs.Cost.{blocks as blocksFor}
 use Rattle.chain.specs.Chain.{homed, flat, Spliced}
 use Rattle.tables.specs.Tables.{links, blocksIn, word, usedOf}
 use Rattle.tables.proofs.Laws.{tables-of}
