@@ -10,3 +10,4 @@ pub mod Refused
 pub mod Marked
 pub mod Read
 pub mod Added
+pub mod Closed

@@ -119,6 +119,11 @@ keepU at (u ∷ us) = cond (freshT at (u .time)) (u ∷ keepU at us) (keepU at u
 unfoldable pub expired : List Units → ℕ → Float → List Units
 expired st l at = set st l (keepU at (getD st l []))
 
+-- link l has no units
+unfoldable pub emptied : List Units → ℕ → List Units
+emptied st l = set st l []
+
+-- a note and a time
 abbrev pub markedU : Unit → ℕ → Float → Unit
 markedU u note at = record { key = u .key; note = note; time = at; body = u .body; top = u .top }
 

@@ -6,7 +6,7 @@ ghost use Prim.Native.Nat.{_+_, _*_, _-_, _≤_, _<_};
 ghost use lib.ListN.{length, getD};
 ghost use Rattle.octets.specs.Emit.{put};
 ghost use Rattle.tables.specs.Tables.{links, count, units, tablesOk};
-ghost use Rattle.pool.specs.View.{sound, pend, expired, keyIs, Found, refusal, placeWords, added, SameSettings};
+ghost use Rattle.pool.specs.View.{sound, pend, expired, emptied, keyIs, Found, refusal, placeWords, added, SameSettings};
 use crate::unit::remove;
 
 // The units of link l that are not fresh are taken out.
@@ -34,6 +34,28 @@ pub fn expire(
             remove(words, times, list, home, blocks, l, j);
             u -= 1;
         }
+    }
+}
+
+// Every unit of link l is taken out.
+pub fn empty(
+    words: &mut [u64],
+    times: &mut [f64],
+    list: &mut [u16],
+    home: &mut [u16],
+    blocks: &[u8],
+    l: usize,
+)
+    requires { ⌜ sound (now words) (now times) (now list) (now home) (now blocks) ≡ true ⌝ }
+    requires { ⌜ l < links (now words) ⌝ }
+    ensures { λ _. ⌜ sound (now (words .exit)) (now (times .exit)) (now (list .exit)) (now (home .exit)) (now (blocks .entry)) ≡ true ⌝ }
+    ensures { λ _. ⌜ pend (now (words .exit)) (now (times .exit)) (now (list .exit)) (now (blocks .entry)) ≡ emptied (pend (now (words .entry)) (now (times .entry)) (now (list .entry)) (now (blocks .entry))) l ⌝ }
+    ensures { λ _. ⌜ SameSettings (now (words .entry)) (now (words .exit)) ⌝ }
+{
+    let mut u = words[24 + l] as usize;
+    while 0 < u {
+        u -= 1;
+        remove(words, times, list, home, blocks, l, u);
     }
 }
 
