@@ -11,3 +11,4 @@ pub mod Marked
 pub mod Read
 pub mod Added
 pub mod Closed
+pub mod Made

@@ -5,14 +5,14 @@ use mathlib.Core.Bool.{Bool, true, false, cond, _&&_}
 use mathlib.Core.List.{List, [], _∷_, _++_}
 use lib.Dec.{leb, ltb, eqb}
 use lib.Ieee.{Float, nan}
-use lib.ListN.{length, getD, set, take, drop}
+use lib.ListN.{length, getD, set, take, drop, replicate}
 use Rattle.clock.specs.Time.{freshT}
 use Rattle.octets.specs.Tests.{all}
 use Rattle.octets.specs.Emit.{put}
 use Rattle.model.specs.Cost.{blocks}
 use Rattle.chain.specs.Chain.{homed, flat}
 use Rattle.shift.specs.Shift.{shifted}
-use Rattle.tables.specs.Tables.{links, blocksIn, reserve, cap, count, units, word, placeCost, costs, usedOf, excessOf, tablesOk}
+use Rattle.tables.specs.Tables.{links, blocksIn, reserve, cap, count, units, word, placeCost, costs, usedOf, excessOf, allowed, tablesOk}
 
 -- a pending unit: six words of key, a note, the time of its last piece, and two parts
 pub record Unit : Type 0 where
@@ -186,3 +186,24 @@ lessWords w l j = set (set (shifted w (40 + 12 * (8 * l + j)) 12 (40 + 12 * (8 *
 
 abbrev pub lessTimes : List ℕ → List Float → ℕ → ℕ → List Float
 lessTimes w tm l j = shifted tm (8 * l + j) 1 (8 * l + units w l - 1)
+
+-- ---- a new store
+
+-- settings n, b, r, c are allowed, and what is lent is long enough for b blocks
+unfoldable pub fits : List ℕ → List Float → List ℕ → List ℕ → List ℕ → ℕ → ℕ → ℕ → ℕ → Bool
+fits w t list home bs n b r c =
+    allowed n b r c && (leb 1576 (length w) && (leb 128 (length t) && (leb b (length list) && (leb b (length home) && leb (64 * b) (length bs)))))
+
+-- the words of a store with no units
+abbrev pub newWords : List ℕ → ℕ → ℕ → ℕ → ℕ → ℕ → List ℕ
+newWords w kind n b r c = set (set (set (set (set (put w 5 (replicate 35 0)) 0 kind) 1 n) 2 b) 3 r) 4 c
+
+-- a sound store of this kind and these settings, with no units
+pub record Made (w : List ℕ) (t : List Float) (list home bs : List ℕ) (kind n b r c : ℕ) : Type 0 where
+  pub ok : sound w t list home bs ≡ true
+  pub none : pend w t list bs ≡ tab (λ l. []) n
+  pub on-kind : getD w 0 0 ≡ kind
+  pub on-links : links w ≡ n
+  pub on-blocks : blocksIn w ≡ b
+  pub on-reserve : reserve w ≡ r
+  pub on-cap : cap w ≡ c

@@ -12,7 +12,7 @@ use borrow.Author.Tests.{leb-true, le-leb, lt-leb, ltb-true, ltb-false, lt-ltb, 
 use Rattle.octets.specs.Tests.{all}
 use Rattle.octets.proofs.Tests.{all-at, and-left, and-right, and-false}
 use Rattle.model.specs.Cost.{blocks}
-use Rattle.tables.specs.Tables.{links, blocksIn, reserve, cap, count, units, word, sum, placeOk, placesOk, costs, keysOk, settingsOk, linkOk, idle, linkAt, usedOf, excessOf, tablesOk}
+use Rattle.tables.specs.Tables.{links, blocksIn, reserve, cap, count, units, word, sum, placeOk, placesOk, costs, keysOk, allowed, settingsOk, linkOk, idle, linkAt, usedOf, excessOf, tablesOk}
 
 pub sum-none : (f : ℕ → ℕ) → sum f 0 ≡ 0
 unfolding sum
@@ -32,7 +32,7 @@ pub record Settings (w : List ℕ) : Type 0 where
   pub cover : links w * reserve w ≤ blocksIn w
 
 pub settings : (w : List ℕ) → settingsOk w ≡ true → Settings w
-unfolding settingsOk
+unfolding settingsOk allowed
 settings w h₁ =
     let h₂ = and-right (leb 1 (links w)) _ h₁ in
     let h₃ = and-right (leb (links w) 16) _ h₂ in

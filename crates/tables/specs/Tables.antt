@@ -65,10 +65,12 @@ keyNew w p i = all (λ j. not (keyEq w (p + i) (p + j))) i
 abbrev pub keysOk : List ℕ → ℕ → ℕ → Bool
 keysOk w p u = all (keyNew w p) u
 
--- the settings are allowed
+-- settings that are allowed: links n, blocks b, reserve r, cap c
+unfoldable pub allowed : ℕ → ℕ → ℕ → ℕ → Bool
+allowed n b r c = leb 1 n && (leb n 16 && (leb 1 b && (leb b 1024 && (leb c b && (leb r c && leb (n * r) b)))))
+
 unfoldable pub settingsOk : List ℕ → Bool
-settingsOk w =
-    leb 1 (links w) && (leb (links w) 16 && (leb 1 (blocksIn w) && (leb (blocksIn w) 1024 && (leb (cap w) (blocksIn w) && (leb (reserve w) (cap w) && leb (links w * reserve w) (blocksIn w))))))
+settingsOk w = allowed (links w) (blocksIn w) (reserve w) (cap w)
 
 -- a link: at most eight units, whose block counts are right; the link's agrees and is within the cap; no key stands twice
 unfoldable pub linkOk : List ℕ → ℕ → Bool

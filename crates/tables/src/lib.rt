@@ -3,18 +3,14 @@ ghost use mathlib.Core.Path.{_≡_};
 ghost use mathlib.Core.Bool.{true};
 ghost use Prim.Native.Nat.{_+_, _*_, _-_, _≤_, _<_};
 ghost use lib.ListN.{length};
-ghost use Rattle.tables.specs.Tables.{links, count, word, placeOk, placesOk, placeCost, costs, keyEq, keyNew, keysOk, settingsOk, linkAt, usedOf, excessOf, tablesOk};
+ghost use Rattle.tables.specs.Tables.{links, count, word, placeOk, placesOk, placeCost, costs, keyEq, keyNew, keysOk, allowed, settingsOk, linkAt, usedOf, excessOf, tablesOk};
 ghost use Rattle.octets.specs.Tests.{all};
 use model::blocks_of;
 
-fn settings_ok(words: &[u64]) -> bool
-    requires { ⌜ 1576 ≤ length (now words) ⌝ }
-    ensures { λ r. ⌜ r ≡ settingsOk (now (words .entry)) ⌝ }
+// Whether settings are allowed: links n, blocks b, reserve r, cap c.
+pub fn settings_allowed(n: u64, b: u64, r: u64, c: u64) -> bool
+    ensures { λ x. ⌜ x ≡ allowed n b r c ⌝ }
 {
-    let n = words[1];
-    let b = words[2];
-    let r = words[3];
-    let c = words[4];
     if n < 1 {
         return false;
     }
@@ -34,6 +30,13 @@ fn settings_ok(words: &[u64]) -> bool
         return false;
     }
     n * r <= b
+}
+
+fn settings_ok(words: &[u64]) -> bool
+    requires { ⌜ 1576 ≤ length (now words) ⌝ }
+    ensures { λ r. ⌜ r ≡ settingsOk (now (words .entry)) ⌝ }
+{
+    settings_allowed(words[1], words[2], words[3], words[4])
 }
 
 // Whether two places have one key.
