@@ -12,3 +12,4 @@ pub mod Read
 pub mod Added
 pub mod Closed
 pub mod Made
+pub mod Shares
