@@ -13,3 +13,4 @@ pub mod Added
 pub mod Closed
 pub mod Made
 pub mod Shares
+pub mod Model
