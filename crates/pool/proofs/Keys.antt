@@ -4,15 +4,15 @@ use mathlib.Core.Path.{_≡_, refl, sym, ap, _∙_}
 use mathlib.Core.Bool.{Bool, true, false}
 use mathlib.Core.List.{List, [], _∷_, _++_}
 use native.Mathlib.Omega.{arith}
-use lib.Dec.{eqb}
+use lib.Dec.{eqb, ltb}
 use lib.Ieee.{Float}
 use lib.ListN.{length, getD}
 use lib.Seq.{ext-getD}
-use borrow.Author.Tests.{eq-eqb, eqb-true}
+use borrow.Author.Tests.{eq-eqb, eqb-true, ltb-true, ltb-false}
 use Rattle.octets.specs.Tests.{all}
-use Rattle.octets.proofs.Tests.{all-at, all-of}
+use Rattle.octets.proofs.Tests.{all-at, all-of, no-true}
 use Rattle.tables.specs.Tables.{links, units, word}
-use Rattle.pool.specs.View.{Unit, blank, tab, startOf, unitAt, linkUnits, octets, pend, keyIs}
+use Rattle.pool.specs.View.{Unit, blank, tab, startOf, unitAt, linkUnits, octets, pend, keyIs, Found}
 use Rattle.pool.proofs.Tab.{length-tab, getD-tab}
 use Rattle.pool.proofs.Expired.{link-view}
 
@@ -30,6 +30,13 @@ key-yes w p key n h =
 pub key-no : (w : List ℕ) (p : ℕ) (key : List ℕ) → keyIs w p key ≡ false → tab (word w p) 6 ≡ key → ⊥
 key-no w p key h e =
     let y : keyIs w p key ≡ true = all-of (λ x. eqb (word w p x) (getD key x 0)) 6 (λ i q. eq-eqb (word w p i) (getD key i 0) (sym (getD-tab (word w p) 6 i 0 q) ∙ ap (λ (x : List ℕ). getD x i 0) e)) in
-    let z : true ≡ false = sym y ∙ h in
-    let o : _≡_ {A = ℕ} 0 1 = cc in
-    omega arith
+    no-true (sym h ∙ y)
+
+-- one answer at the most is the first unit with a key
+pub determined : (us : List Unit) (key : List ℕ) (r q : ℕ) → Found us key r → Found us key q → r ≡ q
+determined us key r q a b = go (ltb r q) refl (ltb q r) refl
+  where
+    go : (x : Bool) → ltb r q ≡ x → (y : Bool) → ltb q r ≡ y → r ≡ q
+    go true e y f = let h : r < q = ltb-true r q e in absurd (b .first r h (a .has (omega (arith, b .within))))
+    go false e true f = let h : q < r = ltb-true q r f in absurd (a .first q h (b .has (omega (arith, a .within))))
+    go false e false f = omega (arith, ltb-false r q e, ltb-false q r f)
