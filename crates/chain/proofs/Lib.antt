@@ -5,3 +5,4 @@ pub mod Home
 pub mod Moves
 pub mod Spelt
 pub mod Spliced
+pub mod Zeros

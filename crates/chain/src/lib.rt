@@ -3,7 +3,7 @@ ghost use mathlib.Core.Path.{_≡_};
 ghost use mathlib.Core.Bool.{true};
 ghost use mathlib.Core.List.{_++_};
 ghost use Prim.Native.Nat.{_+_, _*_, _-_, _≤_, _<_};
-ghost use lib.ListN.{length, getD, set, take, drop};
+ghost use lib.ListN.{length, getD, set, take, drop, replicate};
 ghost use Rattle.octets.specs.Emit.{put};
 ghost use Rattle.chain.specs.Chain.{chainOk, homed, inUseAt, swapped, flat, Resized, Spliced};
 use octets::emit::copy;
@@ -233,4 +233,58 @@ pub fn splice(
 {
     resize(list, home, b, m, a, k, n);
     write_at(list, blocks, b, m + n - k, 64 * a + d, src);
+}
+
+// n octets from index at on become 0.
+fn zero(dst: &mut [u8], at: usize, n: usize)
+    requires { ⌜ at + n ≤ length (now dst) ⌝ }
+    ensures { λ _. ⌜ now (dst .exit) ≡ put (now (dst .entry)) at (replicate n 0) ⌝ }
+{
+    let mut j: usize = 0;
+    while j < n {
+        dst[at + j] = 0;
+        j += 1;
+    }
+}
+
+// m zeros, written at place v of the octets that the first n entries spell.
+fn zero_at(list: &[u16], blocks: &mut [u8], b: usize, n: usize, v: usize, m: usize)
+    requires { ⌜ (n ≤ b) × (n ≤ length (now list)) × (chainOk b (take n (now list)) ≡ true) × (64 * b ≤ length (now blocks)) × (v + m ≤ 64 * n) ⌝ }
+    ensures { λ _. ⌜ flat (now (blocks .exit)) (take n (now (list .entry))) ≡ put (flat (now (blocks .entry)) (take n (now (list .entry)))) v (replicate m 0) ⌝ }
+{
+    let mut done: usize = 0;
+    while done < m {
+        let at = v + done;
+        let i = at / 64;
+        let k = at % 64;
+        let x = list[i] as usize;
+        let mut part = 64 - k;
+        if m - done < part {
+            part = m - done;
+        }
+        zero(blocks, 64 * x + k, part);
+        done += part;
+    }
+}
+
+// The k blocks from entry a on become n, and z zeros are written from their octet d on.
+pub fn splice_zeros(
+    list: &mut [u16],
+    home: &mut [u16],
+    blocks: &mut [u8],
+    b: usize,
+    m: usize,
+    a: usize,
+    k: usize,
+    n: usize,
+    d: usize,
+    z: usize,
+)
+    requires { ⌜ (a + k ≤ m) × (m + n ≤ b + k) × (m ≤ b) × (b ≤ 1024) × (b ≤ length (now list)) × (b ≤ length (now home)) × (homed (now home) (now list) b m ≡ true) ⌝ }
+    requires { ⌜ (64 * b ≤ length (now blocks)) × (d ≤ 64 * k) × (d + z ≤ 64 * n) ⌝ }
+    ensures { λ _. ⌜ homed (now (home .exit)) (now (list .exit)) b (m + n - k) ≡ true ⌝ }
+    ensures { λ _. ⌜ Spliced (flat (now (blocks .entry)) (take m (now (list .entry)))) (flat (now (blocks .exit)) (take (m + n - k) (now (list .exit)))) a k n d (replicate z 0) ⌝ }
+{
+    resize(list, home, b, m, a, k, n);
+    zero_at(list, blocks, b, m + n - k, 64 * a + d, z);
 }

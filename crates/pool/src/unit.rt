@@ -2,7 +2,7 @@
 ghost use mathlib.Core.Path.{_≡_};
 ghost use mathlib.Core.Bool.{true};
 ghost use Prim.Native.Nat.{_+_, _*_, _-_, _≤_, _<_};
-ghost use lib.ListN.{length, getD};
+ghost use lib.ListN.{length, getD, replicate};
 ghost use Rattle.octets.specs.Emit.{put};
 ghost use Rattle.model.specs.Cost.{blocks as blocksFor};
 ghost use Rattle.tables.specs.Tables.{links, units, word, count, placeCost, tablesOk};
@@ -69,6 +69,38 @@ pub fn splice(
     let x = d + src.len();
     let n = (x + 63) / 64;
     chain::splice(list, home, blocks, b, m, a, k, n, d, src);
+    set_part(words, l, j, part, x as u64, n as u64);
+}
+
+// A part of unit j of link l from its octet d on becomes z zeros.
+pub fn zeros(
+    words: &mut [u64],
+    times: &[f64],
+    list: &mut [u16],
+    home: &mut [u16],
+    blocks: &mut [u8],
+    l: usize,
+    j: usize,
+    part: usize,
+    d: usize,
+    z: usize,
+)
+    requires { ⌜ sound (now words) (now times) (now list) (now home) (now blocks) ≡ true ⌝ }
+    requires { ⌜ (l < links (now words)) × (j < units (now words) l) × (part < 2) × (d ≤ word (now words) (8 * l + j) (7 + part)) × (z ≤ 65535) ⌝ }
+    requires { ⌜ Room (now words) l (word (now words) (8 * l + j) (9 + part)) (blocksFor (d + z)) ⌝ }
+    ensures { λ _. ⌜ sound (now (words .exit)) (now (times .entry)) (now (list .exit)) (now (home .exit)) (now (blocks .exit)) ≡ true ⌝ }
+    ensures { λ _. ⌜ pend (now (words .exit)) (now (times .entry)) (now (list .exit)) (now (blocks .exit)) ≡ spliced (pend (now (words .entry)) (now (times .entry)) (now (list .entry)) (now (blocks .entry))) l j part d (replicate z 0) ⌝ }
+    ensures { λ _. ⌜ SameSettings (now (words .entry)) (now (words .exit)) ⌝ }
+{
+    let b = words[2] as usize;
+    let links = words[1] as usize;
+    let m = tables::used(words, links);
+    let s = start_of(words, l, j);
+    let a = part_start(words, 8 * l + j, part, s);
+    let k = words[40 + 12 * (8 * l + j) + (9 + part)] as usize;
+    let x = d + z;
+    let n = (x + 63) / 64;
+    chain::splice_zeros(list, home, blocks, b, m, a, k, n, d, z);
     set_part(words, l, j, part, x as u64, n as u64);
 }
 
