@@ -6,3 +6,4 @@ pub mod Moves
 pub mod Spelt
 pub mod Spliced
 pub mod Zeros
+pub mod Window

@@ -152,7 +152,7 @@ pub fn release(list: &mut [u16], home: &mut [u16], b: usize, n: usize, p: usize,
 }
 
 // The octets of src, written at place v of the octets that the first n entries spell.
-fn write_at(list: &[u16], blocks: &mut [u8], b: usize, n: usize, v: usize, src: &[u8])
+pub fn write_at(list: &[u16], blocks: &mut [u8], b: usize, n: usize, v: usize, src: &[u8])
     requires { ⌜ (n ≤ b) × (n ≤ length (now list)) × (chainOk b (take n (now list)) ≡ true) × (64 * b ≤ length (now blocks)) × (v + length (now src) ≤ 64 * n) ⌝ }
     ensures { λ _. ⌜ flat (now (blocks .exit)) (take n (now (list .entry))) ≡ put (flat (now (blocks .entry)) (take n (now (list .entry)))) v (now (src .entry)) ⌝ }
 {

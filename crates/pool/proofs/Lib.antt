@@ -14,3 +14,4 @@ pub mod Closed
 pub mod Made
 pub mod Shares
 pub mod Model
+pub mod Written

@@ -171,6 +171,16 @@ partFrom part u d s = cond (eqb part 0) (bodyFrom u d s) (topFrom u d s)
 unfoldable pub spliced : List Units → ℕ → ℕ → ℕ → ℕ → List ℕ → List Units
 spliced st l j part d s = withUnit st l j (partFrom part (unitOf st l j) d s)
 
+-- a part of a unit has s from its octet o on
+abbrev pub partPut : ℕ → Unit → ℕ → List ℕ → Unit
+partPut part u o s =
+    cond (eqb part 0) (record { key = u .key; note = u .note; time = u .time; body = put (u .body) o s; top = u .top })
+    (record { key = u .key; note = u .note; time = u .time; body = u .body; top = put (u .top) o s })
+
+-- a part of unit j of link l has s from its octet o on
+unfoldable pub written : List Units → ℕ → ℕ → ℕ → ℕ → List ℕ → List Units
+written st l j part o s = withUnit st l j (partPut part (unitOf st l j) o s)
+
 -- the block of a place at which a part of it begins
 abbrev pub partAt : List ℕ → ℕ → ℕ → ℕ
 partAt w p part = cond (eqb part 0) 0 (word w p 9)

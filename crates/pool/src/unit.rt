@@ -6,7 +6,7 @@ ghost use lib.ListN.{length, getD, replicate};
 ghost use Rattle.octets.specs.Emit.{put};
 ghost use Rattle.model.specs.Cost.{blocks as blocksFor};
 ghost use Rattle.tables.specs.Tables.{links, units, word, count, placeCost, tablesOk};
-ghost use Rattle.pool.specs.View.{sound, pend, startOf, partAt, Room, SameSettings, spliced, spliceWords, removed, lessWords, lessTimes, marked, unitOf, partOf};
+ghost use Rattle.pool.specs.View.{sound, pend, startOf, partAt, Room, SameSettings, spliced, written, spliceWords, removed, lessWords, lessTimes, marked, unitOf, partOf};
 
 // The block from which on place j of link l stands.
 pub fn start_of(words: &[u64], l: usize, j: usize) -> usize
@@ -102,6 +102,32 @@ pub fn zeros(
     let n = (x + 63) / 64;
     chain::splice_zeros(list, home, blocks, b, m, a, k, n, d, z);
     set_part(words, l, j, part, x as u64, n as u64);
+}
+
+// A part of unit j of link l has src from its octet o on.
+pub fn write(
+    words: &[u64],
+    times: &[f64],
+    list: &[u16],
+    home: &[u16],
+    blocks: &mut [u8],
+    l: usize,
+    j: usize,
+    part: usize,
+    o: usize,
+    src: &[u8],
+)
+    requires { ⌜ sound (now words) (now times) (now list) (now home) (now blocks) ≡ true ⌝ }
+    requires { ⌜ (l < links (now words)) × (j < units (now words) l) × (part < 2) × (o + length (now src) ≤ word (now words) (8 * l + j) (7 + part)) ⌝ }
+    ensures { λ _. ⌜ sound (now (words .entry)) (now (times .entry)) (now (list .entry)) (now (home .entry)) (now (blocks .exit)) ≡ true ⌝ }
+    ensures { λ _. ⌜ pend (now (words .entry)) (now (times .entry)) (now (list .entry)) (now (blocks .exit)) ≡ written (pend (now (words .entry)) (now (times .entry)) (now (list .entry)) (now (blocks .entry))) l j part o (now (src .entry)) ⌝ }
+{
+    let b = words[2] as usize;
+    let links = words[1] as usize;
+    let m = tables::used(words, links);
+    let s = start_of(words, l, j);
+    let a = part_start(words, 8 * l + j, part, s);
+    chain::write_at(list, blocks, b, m, 64 * a + o, src);
 }
 
 // Place j of link l, of k blocks, is gone from the tables.
