@@ -12,6 +12,8 @@ pub mod Read
 pub mod Added
 pub mod Closed
 pub mod Made
+pub mod Counts
 pub mod Shares
+pub mod Exact
 pub mod Model
 pub mod Written

@@ -6,65 +6,28 @@ use mathlib.Core.List.{List, [], _∷_, _++_}
 use native.Mathlib.Omega.{arith}
 use lib.Dec.{eqb, ltb}
 use lib.Ieee.{Float}
-use lib.ListN.{length, getD, set, take, drop, length-drop}
-use lib.Seq.{length-take-le}
+use lib.ListN.{length, getD, set}
 use borrow.Author.Tests.{eq-eqb, not-true, ltb-true, ltb-false, lt-ltb, le-ltb}
 use Rattle.octets.proofs.Tests.{all-at, all-of, no-true}
-use Rattle.chain.proofs.Spelt.{spelt-long}
-use Rattle.model.specs.Cost.{blocks}
-use Rattle.tables.specs.Tables.{links, blocksIn, reserve, cap, count, units, word, sum, placeCost, wordEq, keyEq, keyNew, usedOf, excessOf}
-use Rattle.tables.proofs.Laws.{used-fits}
-use Rattle.pool.specs.View.{Unit, blank, tab, startOf, unitAt, linkUnits, octets, pend, sound, refusal}
-use Rattle.pool.specs.Shares.{costOf, inUse, excesses, Fine, Shared, roomFor}
+use Rattle.tables.specs.Tables.{links, blocksIn, reserve, cap, count, units, word, wordEq, keyEq, keyNew, excessOf}
+use Rattle.pool.specs.View.{Unit, blank, tab, pend, sound, refusal}
+use Rattle.pool.specs.Shares.{inUse, excesses, Fine, Shared, roomFor}
+use Rattle.pool.specs.Kinds.{Spelt}
 use Rattle.pool.proofs.Good.{Good, good}
-use Rattle.pool.proofs.Tab.{sum-same, length-tab, getD-tab}
-use Rattle.pool.proofs.Near.{own, sizes}
+use Rattle.pool.proofs.Tab.{getD-tab}
+use Rattle.pool.proofs.Near.{own}
 use Rattle.pool.proofs.Keys.{key-of}
-use Rattle.pool.proofs.Expired.{pend-long, link-view, view-long}
-
-inUse-last : (xs : List Unit) (u : Unit) → inUse (xs ++ (u ∷ [])) ≡ inUse xs + costOf u
-unfolding inUse
-inUse-last [] u = omega arith
-inUse-last (x ∷ xs) u = omega (arith, inUse-last xs u)
-
-inUse-tab : (f : ℕ → Unit) (n : ℕ) → inUse (tab f n) ≡ sum (λ i. costOf (f i)) n
-unfolding tab sum inUse
-inUse-tab f zero = refl
-inUse-tab f (suc n) = inUse-last (tab f n) (f n) ∙ ap (λ (x : ℕ). x + costOf (f n)) (inUse-tab f n)
-
-excesses-last : (r : ℕ) (xs : List (List Unit)) (us : List Unit) → excesses r (xs ++ (us ∷ [])) ≡ excesses r xs + (inUse us - r)
-unfolding excesses
-excesses-last r [] us = omega arith
-excesses-last r (x ∷ xs) us = omega (arith, excesses-last r xs us)
-
-excesses-tab : (r : ℕ) (f : ℕ → List Unit) (n : ℕ) → excesses r (tab f n) ≡ sum (λ i. inUse (f i) - r) n
-unfolding tab sum excesses
-excesses-tab r f zero = refl
-excesses-tab r f (suc n) = excesses-last r (tab f n) (f n) ∙ ap (λ (x : ℕ). x + (inUse (f n) - r)) (excesses-tab r f n)
+use Rattle.pool.proofs.Expired.{pend-long, view-long}
+use Rattle.pool.proofs.Counts.{good-spelt, use-spelt, common-spelt}
 
 module _ (w : List ℕ) (tm : List Float) (list home bs : List ℕ) (g : Good w tm list home bs) where
-  lf : length (octets w list bs) ≡ 64 * usedOf w (links w)
-  lf = spelt-long home list bs (blocksIn w) (usedOf w (links w)) (g .chain) (omega (arith, used-fits w (g .tab), g .listed)) (g .room)
+  spelt : Spelt w tm list home bs
+  spelt = good-spelt w tm list home bs g
 
   module _ (l : ℕ) (hl : l < links w) where
-    cost-is : (i : ℕ) → i < units w l → costOf (unitAt w tm (octets w list bs) (startOf w l i) (8 * l + i)) ≡ placeCost w (8 * l + i)
-    cost-is i h =
-        let z = sizes w l i (g .tab) hl h in
-        let d : length (take (word w (8 * l + i) 7) (drop (64 * startOf w l i) (octets w list bs))) ≡ word w (8 * l + i) 7 =
-        length-take-le (word w (8 * l + i) 7) (drop (64 * startOf w l i) (octets w list bs)) (omega (arith, z, lf, length-drop (64 * startOf w l i) (octets w list bs))) in
-        let e : length (take (word w (8 * l + i) 8) (drop (64 * (startOf w l i + word w (8 * l + i) 9)) (octets w list bs))) ≡ word w (8 * l + i) 8 =
-        length-take-le (word w (8 * l + i) 8) (drop (64 * (startOf w l i + word w (8 * l + i) 9)) (octets w list bs)) (omega (arith, z, lf, length-drop (64 * (startOf w l i + word w (8 * l + i) 9)) (octets w list bs))) in
-        ap₂ (λ (a b : ℕ). blocks a + blocks b) d e ∙ sym (ap₂ _+_ (z .right .body) (z .right .top))
-
-    use-link : inUse (linkUnits w tm (octets w list bs) l) ≡ count w l
-    use-link =
-        inUse-tab (λ i. unitAt w tm (octets w list bs) (startOf w l i) (8 * l + i)) (units w l)
-        ∙ sum-same (λ i. costOf (unitAt w tm (octets w list bs) (startOf w l i) (8 * l + i))) (λ i. placeCost w (8 * l + i)) (units w l) cost-is
-        ∙ sym (own w l (g .tab) hl .agrees)
-
     -- the stored count is what the link's units use
     pub use-is : inUse (getD (pend w tm list bs) l []) ≡ count w l
-    use-is = ap inUse (link-view w tm list bs l hl) ∙ use-link
+    use-is = use-spelt w tm list home bs spelt l hl
 
     pub fine : Fine (cap w) (getD (pend w tm list bs) l [])
     fine =
@@ -85,10 +48,7 @@ module _ (w : List ℕ) (tm : List Float) (list home bs : List ℕ) (g : Good w 
             no-true (sym no ∙ same)
 
   common-is : excesses (reserve w) (pend w tm list bs) ≡ excessOf w (links w)
-  unfolding pend
-  common-is =
-      excesses-tab (reserve w) (linkUnits w tm (octets w list bs)) (links w)
-      ∙ sum-same (λ l. inUse (linkUnits w tm (octets w list bs) l) - reserve w) (λ l. count w l - reserve w) (links w) (λ l h. ap (λ (x : ℕ). x - reserve w) (use-link l h))
+  common-is = common-spelt w tm list home bs spelt
 
   pub shared-good : Shared (links w) (blocksIn w) (reserve w) (cap w) (pend w tm list bs)
   shared-good = record { many = pend-long w tm list bs; each = fine; common = omega (arith, common-is, g .tab .rest) }
