@@ -15,5 +15,6 @@ pub mod Made
 pub mod Counts
 pub mod Shares
 pub mod Exact
+pub mod Passing
 pub mod Model
 pub mod Written
