@@ -17,4 +17,5 @@ pub mod Shares
 pub mod Exact
 pub mod Passing
 pub mod Model
+pub mod Steps
 pub mod Written
