@@ -18,4 +18,5 @@ pub mod Exact
 pub mod Passing
 pub mod Model
 pub mod Steps
+pub mod Determined
 pub mod Written
