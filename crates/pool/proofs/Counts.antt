@@ -1,7 +1,7 @@
 -- Where tables and chains spell pending units, the stored counts are what these units use.
 use Prim.Native.Nat.{ℕ, zero, suc, _+_, _*_, _-_, _≤_, _<_}
 use mathlib.Core.Path.{_≡_, refl, sym, ap, ap₂, _∙_}
-use mathlib.Core.Bool.{Bool, true, false, cond}
+use mathlib.Core.Bool.{true}
 use mathlib.Core.List.{List, [], _∷_, _++_}
 use native.Mathlib.Omega.{arith}
 use lib.Dec.{eqb}
@@ -12,7 +12,7 @@ use borrow.Author.Tests.{eqb-true}
 use Rattle.octets.proofs.Tests.{all-at, and-left, and-right}
 use Rattle.chain.proofs.Spelt.{spelt-long}
 use Rattle.model.specs.Cost.{blocks}
-use Rattle.tables.specs.Tables.{links, blocksIn, reserve, count, units, word, sum, placeOk, placeCost, costs, idle, linkAt, usedOf, excessOf}
+use Rattle.tables.specs.Tables.{links, blocksIn, reserve, count, units, word, sum, placeOk, placeCost, idle, linkAt, usedOf, excessOf}
 use Rattle.tables.proofs.Laws.{used-fits, Place, place, idle-is}
 use Rattle.pool.specs.View.{Unit, tab, startOf, unitAt, linkUnits, octets, pend}
 use Rattle.pool.specs.Shares.{costOf, inUse, excesses}
@@ -55,8 +55,8 @@ good-spelt w tm list home bs g = record {
   parts = λ l j hl hj. all-at (λ i. placeOk w (8 * l + i)) j (units w l) (own w l (g .tab) hl .right) hj;
   counts = λ l hl. own w l (g .tab) hl .agrees;
   past = λ l h k.
-    let e : idle w l ≡ true = sym (idle-is w l h) ∙ all-at (linkAt w) l 16 (g .tab .each) k in
-    (eqb-true (units w l) 0 (and-left (eqb (units w l) 0) _ e), eqb-true (count w l) 0 (and-right (eqb (units w l) 0) _ e));
+      let e : idle w l ≡ true = sym (idle-is w l h) ∙ all-at (linkAt w) l 16 (g .tab .each) k in
+      (eqb-true (units w l) 0 (and-left (eqb (units w l) 0) _ e), eqb-true (count w l) 0 (and-right (eqb (units w l) 0) _ e));
   there = used-fits w (g .tab);
   chain = g .chain;
 }

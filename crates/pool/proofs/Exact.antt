@@ -1,19 +1,18 @@
 -- The soundness test holds exactly where tables and chains spell pending units that meet the share rules.
-use Prim.Native.Nat.{ℕ, zero, suc, _+_, _*_, _-_, _≤_, _<_}
-use mathlib.Core.Path.{_≡_, refl, sym, ap, ap₂, _∙_}
-use mathlib.Core.Bool.{Bool, true, false, not, _&&_}
+use Prim.Native.Nat.{ℕ, _+_, _*_, _<_}
+use mathlib.Core.Path.{_≡_, refl, sym, _∙_}
+use mathlib.Core.Bool.{Bool, true, false, not}
 use mathlib.Core.List.{List, []}
 use native.Mathlib.Omega.{arith}
-use lib.Dec.{eqb, ltb}
+use lib.Dec.{ltb}
 use lib.Ieee.{Float}
 use lib.ListN.{length, getD}
 use borrow.Author.Tests.{eq-eqb, eqb-true, ltb-true, ltb-false}
-use Rattle.octets.specs.Tests.{all}
 use Rattle.octets.proofs.Tests.{all-at, all-of}
-use Rattle.tables.specs.Tables.{links, blocksIn, reserve, cap, count, units, word, placeOk, wordEq, keyEq, keyNew, keysOk, idle, linkAt}
+use Rattle.tables.specs.Tables.{links, blocksIn, reserve, cap, count, units, word, placeOk, wordEq, keyEq, keyNew, idle, linkAt}
 use Rattle.tables.proofs.Laws.{Tables, Link, link-of, link-is, idle-is}
 use Rattle.pool.specs.View.{tab, pend, sound}
-use Rattle.pool.specs.Shares.{Fine, Shared}
+use Rattle.pool.specs.Shares.{Shared}
 use Rattle.pool.specs.Kinds.{Spelt}
 use Rattle.pool.proofs.Tab.{tab-same}
 use Rattle.pool.proofs.Good.{Good, good, good-of}

@@ -1,25 +1,24 @@
 -- A store is sound for a kind exactly where it spells pending units that the kind reads as a sound store of the model.
-use Prim.Native.Nat.{ℕ, zero, suc, _+_, _*_, _-_, _≤_, _<_}
+use Prim.Native.Nat.{ℕ, zero, suc, _+_, _-_, _<_}
 use mathlib.Core.Path.{_≡_, refl, sym, ap, ap₂, _∙_}
-use mathlib.Core.Bool.{Bool, true, false, cond, _&&_}
-use mathlib.Core.Option.{Option, none, some}
+use mathlib.Core.Bool.{Bool, true, false, cond}
+use mathlib.Core.Option.{none, some}
 use mathlib.Core.List.{List, [], _∷_, map}
 use native.Mathlib.Omega.{arith}
 use lib.Dec.{eqb}
 use lib.Ieee.{Float}
 use lib.ListN.{length, getD, length-map}
 use borrow.Author.Tests.{eqb-true, eq-eqb}
-use Rattle.octets.proofs.Tests.{no-true, and-left, and-right}
+use Rattle.octets.proofs.Tests.{and-left, and-right}
 use Rattle.model.specs.Kind.{Kind}
 use Rattle.model.specs.Store as model
-use Rattle.model.specs.Store.{Settings, Pend, lookup, Uniq, AllGood, Every, Sound}
-use Rattle.tables.specs.Tables.{links, blocksIn, reserve, cap}
+use Rattle.model.specs.Store.{Settings, lookup, Uniq, AllGood, Every, Sound}
 use Rattle.pool.specs.View.{Unit, blank, pend, sound}
 use Rattle.pool.specs.Shares.{inUse, excesses, Fine, Shared}
 use Rattle.pool.specs.Kinds.{Reading, Spelt, passU, passing, soundOf, settingsOf}
 use Rattle.pool.proofs.Shares.{sound-shares}
 use Rattle.pool.proofs.Exact.{spelt-of, sound-from}
-use Rattle.pool.proofs.Passing.{pass-head, pass-tail, pass-at, passing-head, passing-tail, sound-is}
+use Rattle.pool.proofs.Passing.{pass-head, pass-tail, passing-head, passing-tail, sound-is}
 
 no-some : {A : Type 0} (x : A) → some x ≡ none → ⊥
 no-some x e = let z : _≡_ {A = ℕ} 0 1 = cc in absurd (omega arith)
@@ -125,7 +124,7 @@ module _ (Z : Kind) (R : Reading Z) where
   module _ (kind : ℕ) (w : List ℕ) (t : List Float) (list home bs : List ℕ) where
     pub exactly-to : soundOf kind (R .test) w t list home bs ≡ true → Spelt w t list home bs × (getD w 0 0 ≡ kind) × (passing (R .test) (pend w t list bs) ≡ true) × Sound Z (settingsOf w) (linksAs (pend w t list bs))
     exactly-to h =
-        let e = sym (sound-is w t list home bs kind (R .test)) ∙ h in
+        let e = sym (sound-is kind (R .test) w t list home bs) ∙ h in
         let a = and-left (sound w t list home bs) _ e in
         let f = and-right (sound w t list home bs) _ e in
         let p = and-right (eqb (getD w 0 0) kind) _ f in
@@ -133,5 +132,5 @@ module _ (Z : Kind) (R : Reading Z) where
 
     pub exactly-from : Spelt w t list home bs → getD w 0 0 ≡ kind → passing (R .test) (pend w t list bs) ≡ true → Sound Z (settingsOf w) (linksAs (pend w t list bs)) → soundOf kind (R .test) w t list home bs ≡ true
     exactly-from g k p m =
-        sound-is w t list home bs kind (R .test)
+        sound-is kind (R .test) w t list home bs
         ∙ rw (sound-from w t list home bs g (shared-from (settingsOf w) (pend w t list bs) p m), eq-eqb (getD w 0 0) kind k, p)

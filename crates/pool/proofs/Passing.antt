@@ -1,5 +1,5 @@
 -- Laws of the test of every unit, and of the soundness test of a kind.
-use Prim.Native.Nat.{ℕ, zero, suc, _+_, _*_, _-_, _≤_, _<_}
+use Prim.Native.Nat.{ℕ, zero, suc, _+_, _*_, _<_}
 use mathlib.Core.Path.{_≡_, refl, sym, ap, ap₂, _∙_}
 use mathlib.Core.Bool.{Bool, true, false, cond, _&&_}
 use mathlib.Core.List.{List, [], _∷_, _++_}
@@ -201,36 +201,37 @@ module _ (test : Unit → Bool) where
       passing-append (tab (λ l. []) n) ([] ∷ [])
       ∙ and-both (passing test (tab (λ l. []) n)) (passing test ([] ∷ [])) (passing-new n) (passing-cons [] [] pass-none passing-none)
 
-module _ (w : List ℕ) (t : List Float) (list home bs : List ℕ) where
-  pub sound-is : (kind : ℕ) (test : Unit → Bool) → soundOf kind test w t list home bs ≡ (sound w t list home bs && (eqb (getD w 0 0) kind && passing test (pend w t list bs)))
-  unfolding soundOf
-  sound-is kind test = refl
+-- ---- the soundness test of a kind
+pub sound-is : (kind : ℕ) (test : Unit → Bool) (w : List ℕ) (t : List Float) (list home bs : List ℕ) → soundOf kind test w t list home bs ≡ (sound w t list home bs && (eqb (getD w 0 0) kind && passing test (pend w t list bs)))
+unfolding soundOf
+sound-is kind test w t list home bs = refl
 
-  -- a kind with no test of its own asks only for its number
-  pub sound-any : (kind : ℕ) → soundOf kind anyUnit w t list home bs ≡ (sound w t list home bs && eqb (getD w 0 0) kind)
-  sound-any kind =
-      sound-is kind anyUnit
-      ∙ ap (λ (b : Bool). sound w t list home bs && b)
-      (ap (λ (b : Bool). eqb (getD w 0 0) kind && b) (any-passing (pend w t list bs)) ∙ and-true (eqb (getD w 0 0) kind))
+-- a kind with no test of its own asks only for its number
+pub sound-any : (kind : ℕ) (w : List ℕ) (t : List Float) (list home bs : List ℕ) → soundOf kind anyUnit w t list home bs ≡ (sound w t list home bs && eqb (getD w 0 0) kind)
+sound-any kind w t list home bs =
+    sound-is kind anyUnit w t list home bs
+    ∙ ap (λ (b : Bool). sound w t list home bs && b)
+    (ap (λ (b : Bool). eqb (getD w 0 0) kind && b) (any-passing (pend w t list bs)) ∙ and-true (eqb (getD w 0 0) kind))
 
-  -- the kind's own test comes last
-  pub sound-split : (kind : ℕ) (test : Unit → Bool) → soundOf kind test w t list home bs ≡ (soundOf kind anyUnit w t list home bs && passing test (pend w t list bs))
-  sound-split kind test =
-      sound-is kind test
-      ∙ and-assoc (sound w t list home bs) (eqb (getD w 0 0) kind) (passing test (pend w t list bs))
-      ∙ ap (λ (b : Bool). b && passing test (pend w t list bs)) (sym (sound-any kind))
+-- the kind's own test comes last
+pub sound-split : (kind : ℕ) (test : Unit → Bool) (w : List ℕ) (t : List Float) (list home bs : List ℕ) → soundOf kind test w t list home bs ≡ (soundOf kind anyUnit w t list home bs && passing test (pend w t list bs))
+sound-split kind test w t list home bs =
+    sound-is kind test w t list home bs
+    ∙ and-assoc (sound w t list home bs) (eqb (getD w 0 0) kind) (passing test (pend w t list bs))
+    ∙ ap (λ (b : Bool). b && passing test (pend w t list bs)) (sym (sound-any kind w t list home bs))
 
-  unit-view : (l j : ℕ) → l < links w → j < units w l → unitOf (pend w t list bs) l j ≡ unitAt w t (octets w list bs) (startOf w l j) (8 * l + j)
-  unit-view l j hl hj =
-      ap (λ (us : List Unit). getD us j blank) (link-view w t list bs l hl)
-      ∙ getD-tab (λ i. unitAt w t (octets w list bs) (startOf w l i) (8 * l + i)) (units w l) j blank hj
+-- unit j of link l of the view
+pub unit-view : (w : List ℕ) (t : List Float) (list bs : List ℕ) (l j : ℕ) → l < links w → j < units w l → unitOf (pend w t list bs) l j ≡ unitAt w t (octets w list bs) (startOf w l j) (8 * l + j)
+unit-view w t list bs l j hl hj =
+    ap (λ (us : List Unit). getD us j blank) (link-view w t list bs l hl)
+    ∙ getD-tab (λ i. unitAt w t (octets w list bs) (startOf w l i) (8 * l + i)) (units w l) j blank hj
 
-  -- the kind's own test of every unit, place by place
-  pub passing-by : (test : Unit → Bool) (q : ℕ → ℕ → Bool) → ((l j : ℕ) → l < links w → j < units w l → test (unitOf (pend w t list bs) l j) ≡ q l j) → passing test (pend w t list bs) ≡ all (λ l. all (q l) (units w l)) (links w)
-  unfolding pend
-  passing-by test q h =
-      passing-tab test (linkUnits w t (octets w list bs)) (links w)
-      ∙ all-same (λ l. passU test (linkUnits w t (octets w list bs) l)) (λ l. all (q l) (units w l)) (links w) (λ l hl.
-      pass-tab test (λ j. unitAt w t (octets w list bs) (startOf w l j) (8 * l + j)) (units w l)
-      ∙ all-same (λ j. test (unitAt w t (octets w list bs) (startOf w l j) (8 * l + j))) (q l) (units w l) (λ j hj.
-      ap test (sym (unit-view l j hl hj)) ∙ h l j hl hj))
+-- the kind's own test of every unit, place by place
+pub passing-by : (test : Unit → Bool) (w : List ℕ) (t : List Float) (list bs : List ℕ) (q : ℕ → ℕ → Bool) → ((l j : ℕ) → l < links w → j < units w l → test (unitOf (pend w t list bs) l j) ≡ q l j) → passing test (pend w t list bs) ≡ all (λ l. all (q l) (units w l)) (links w)
+unfolding pend
+passing-by test w t list bs q h =
+    passing-tab test (linkUnits w t (octets w list bs)) (links w)
+    ∙ all-same (λ l. passU test (linkUnits w t (octets w list bs) l)) (λ l. all (q l) (units w l)) (links w) (λ l hl.
+    pass-tab test (λ j. unitAt w t (octets w list bs) (startOf w l j) (8 * l + j)) (units w l)
+    ∙ all-same (λ j. test (unitAt w t (octets w list bs) (startOf w l j) (8 * l + j))) (q l) (units w l) (λ j hj.
+    ap test (sym (unit-view w t list bs l j hl hj)) ∙ h l j hl hj))

@@ -1,16 +1,16 @@
 -- A sound store's pending units meet the share rules, and the counts are theirs.
-use Prim.Native.Nat.{ℕ, zero, suc, _+_, _*_, _-_, _/_, _≤_, _<_}
+use Prim.Native.Nat.{ℕ, zero, suc, _+_, _*_, _-_, _<_}
 use mathlib.Core.Path.{_≡_, refl, sym, ap, ap₂, _∙_}
-use mathlib.Core.Bool.{Bool, true, false, not, cond}
-use mathlib.Core.List.{List, [], _∷_, _++_}
+use mathlib.Core.Bool.{Bool, true, false, not}
+use mathlib.Core.List.{List, [], _∷_}
 use native.Mathlib.Omega.{arith}
-use lib.Dec.{eqb, ltb}
+use lib.Dec.{ltb}
 use lib.Ieee.{Float}
 use lib.ListN.{length, getD, set}
 use borrow.Author.Tests.{eq-eqb, not-true, ltb-true, ltb-false, lt-ltb, le-ltb}
 use Rattle.octets.proofs.Tests.{all-at, all-of, no-true}
 use Rattle.tables.specs.Tables.{links, blocksIn, reserve, cap, count, units, word, wordEq, keyEq, keyNew, excessOf}
-use Rattle.pool.specs.View.{Unit, blank, tab, pend, sound, refusal}
+use Rattle.pool.specs.View.{Unit, tab, pend, sound, refusal}
 use Rattle.pool.specs.Shares.{inUse, excesses, Fine, Shared, roomFor}
 use Rattle.pool.specs.Kinds.{Spelt}
 use Rattle.pool.proofs.Good.{Good, good}

@@ -1,21 +1,21 @@
 -- What the operations leave, read as a kind reads it, is what the model's own steps leave.
-use Prim.Native.Nat.{ℕ, zero, suc, _+_, _*_, _-_, _≤_, _<_}
-use mathlib.Core.Path.{_≡_, refl, sym, ap, ap₂, _∙_}
+use Prim.Native.Nat.{ℕ, zero, suc, _<_}
+use mathlib.Core.Path.{_≡_, refl, sym, ap, _∙_}
 use mathlib.Core.Bool.{Bool, true, false, cond}
-use mathlib.Core.Option.{Option, none, some}
-use mathlib.Core.List.{List, [], _∷_, _++_, map}
+use mathlib.Core.Option.{none, some}
+use mathlib.Core.List.{List, [], _∷_, _++_}
 use native.Mathlib.Numerals.{add-one}
 use native.Mathlib.Omega.{arith}
 use lib.Dec.{ltb}
 use lib.Ieee.{Float}
-use lib.ListN.{length, getD, set, take, drop, replicate, length-map, replicate-append-replicate}
+use lib.ListN.{length, getD, set, replicate, length-map, replicate-append-replicate}
 use borrow.Author.Tests.{ltb-true, ltb-false, lt-ltb, le-ltb}
 use Rattle.clock.specs.Time.{freshT}
 use Rattle.model.specs.Kind.{Kind}
-use Rattle.model.specs.Store.{Settings, Pend, keep, lookup, admit, remove, room, fresh, rest}
+use Rattle.model.specs.Store.{Settings, keep, lookup, admit, remove, room, fresh}
 use Rattle.model.specs.Store as model
-use Rattle.pool.specs.View.{Unit, blank, tab, Found, without, removed, keepU, expired, emptied}
-use Rattle.pool.specs.Shares.{inUse, excesses, Fine, roomFor}
+use Rattle.pool.specs.View.{Unit, blank, tab, Found, without, keepU, expired, emptied}
+use Rattle.pool.specs.Shares.{Fine, roomFor}
 use Rattle.pool.specs.Kinds.{Reading, passU, passing, placed}
 use Rattle.pool.proofs.Passing.{pass-head, pass-tail, passing-set}
 use Rattle.pool.proofs.Model.{unitsAs, linksAs, same-yes, same-no, use-as, excess-as}
