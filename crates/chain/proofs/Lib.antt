@@ -6,4 +6,5 @@ pub mod Moves
 pub mod Spelt
 pub mod Spliced
 pub mod Zeros
+pub mod Step
 pub mod Window

@@ -1,11 +1,13 @@
 // A list of block numbers in which none stands twice, with its inverse, and the octets that it spells.
 ghost use mathlib.Core.Path.{_≡_};
-ghost use mathlib.Core.Bool.{true};
+ghost use mathlib.Core.Bool.{true, cond};
 ghost use mathlib.Core.List.{_++_};
-ghost use Prim.Native.Nat.{_+_, _*_, _-_, _≤_, _<_};
+ghost use Prim.Native.Nat.{ℕ, _+_, _*_, _-_, _≤_, _<_};
 ghost use lib.ListN.{length, getD, set, take, drop, replicate};
+ghost use lib.Dec.{eqb};
 ghost use Rattle.octets.specs.Emit.{put};
-ghost use Rattle.chain.specs.Chain.{chainOk, homed, inUseAt, swapped, flat, Resized, Spliced};
+ghost use Rattle.octets.specs.Tests.{all};
+ghost use Rattle.chain.specs.Chain.{chainOk, homeAt, homed, inUseAt, swapped, flat, Resized, Spliced};
 use octets::emit::copy;
 
 // dst with n entries from index at replaced by src's from index from on.
@@ -20,23 +22,90 @@ fn copy16(dst: &mut [u16], at: usize, src: &[u16], from: usize, n: usize)
     }
 }
 
-// Whether the first n entries are blocks below b, each at its home.
-pub fn homed_ok(list: &[u16], home: &[u16], b: usize, n: usize) -> bool
-    requires { ⌜ (n ≤ length (now list)) × (b ≤ length (now home)) ⌝ }
-    ensures { λ r. ⌜ r ≡ homed (now (home .entry)) (now (list .entry)) b n ⌝ }
+// 1 where two numbers are the same, or 0.
+fn same(x: u16, y: u16) -> u16
+    ensures { λ r. ⌜ r ≡ cond (eqb x y) 1 0 ⌝ }
 {
-    let mut i: usize = 0;
-    while i < n {
-        let x = list[i] as usize;
+    if x == y { 1 } else { 0 }
+}
+
+// Whether the m entries from i on go up one by one from x on, and so do their homes. It counts, and leaves no loop early, so
+// that the compiler compares many at once.
+fn in_step(list: &[u16], home: &[u16], i: usize, x: usize, m: usize) -> bool
+    requires { ⌜ (i + m ≤ length (now list)) × (x + m ≤ length (now home)) × (i + m ≤ 1024) × (x + m ≤ 1024) ⌝ }
+    ensures { λ r. ⌜ (r ≡ true → (t : ℕ) → t < m → (getD (now (list .entry)) (i + t) 0 ≡ x + t) × (getD (now (home .entry)) (x + t) 0 ≡ i + t)) ⌝ }
+{
+    let a = x as u16;
+    let h = i as u16;
+    let mut n: u16 = 0;
+    let mut t: usize = 0;
+    while t < m {
+        n += same(list[i + t], a + t as u16) + same(home[x + t], h + t as u16);
+        t += 1;
+    }
+    n as usize == 2 * m
+}
+
+// Whether the m entries from i on are blocks below b, each at its home.
+fn each_ok(list: &[u16], home: &[u16], b: usize, i: usize, m: usize) -> bool
+    requires { ⌜ (i + m ≤ length (now list)) × (b ≤ length (now home)) ⌝ }
+    ensures { λ r. ⌜ r ≡ all (λ t. homeAt (now (home .entry)) (now (list .entry)) b (i + t)) m ⌝ }
+{
+    let mut t: usize = 0;
+    while t < m {
+        let x = list[i + t] as usize;
         if b <= x {
             return false;
         }
-        if home[x] as usize != i {
+        if home[x] as usize != i + t {
             return false;
         }
-        i += 1;
+        t += 1;
     }
     true
+}
+
+// The same, fast where the blocks follow each other.
+fn stretch_ok(list: &[u16], home: &[u16], b: usize, i: usize, m: usize) -> bool
+    requires { ⌜ (0 < m) × (i + m ≤ length (now list)) × (b ≤ length (now home)) × (i + m ≤ 1024) × (b ≤ 1024) ⌝ }
+    ensures { λ r. ⌜ r ≡ all (λ t. homeAt (now (home .entry)) (now (list .entry)) b (i + t)) m ⌝ }
+{
+    let x = list[i] as usize;
+    if x + m <= b {
+        if in_step(list, home, i, x, m) {
+            return true;
+        }
+    }
+    each_ok(list, home, b, i, m)
+}
+
+// The same of fewer than 64 entries.
+fn rest_ok(list: &[u16], home: &[u16], b: usize, i: usize, m: usize) -> bool
+    requires { ⌜ (i + m ≤ length (now list)) × (b ≤ length (now home)) × (i + m ≤ 1024) × (b ≤ 1024) ⌝ }
+    ensures { λ r. ⌜ r ≡ all (λ t. homeAt (now (home .entry)) (now (list .entry)) b (i + t)) m ⌝ }
+{
+    if m < 32 {
+        return each_ok(list, home, b, i, m);
+    }
+    if !stretch_ok(list, home, b, i, 32) {
+        return false;
+    }
+    each_ok(list, home, b, i + 32, m - 32)
+}
+
+// Whether the first n entries are blocks below b, each at its home.
+pub fn homed_ok(list: &[u16], home: &[u16], b: usize, n: usize) -> bool
+    requires { ⌜ (n ≤ length (now list)) × (b ≤ length (now home)) × (n ≤ b) × (b ≤ 1024) ⌝ }
+    ensures { λ r. ⌜ r ≡ homed (now (home .entry)) (now (list .entry)) b n ⌝ }
+{
+    let mut i: usize = 0;
+    while i + 64 <= n {
+        if !stretch_ok(list, home, b, i, 64) {
+            return false;
+        }
+        i += 64;
+    }
+    rest_ok(list, home, b, i, n - i)
 }
 
 // The home of each entry from p on, up to n, is set.

@@ -1,16 +1,19 @@
+use Rattle.chain.proofs.homed_ok.Statement.{statement}
+use Rattle.chain.proofs.homed_ok.Tie as tie
+use Rattle.chain.proofs.homed_ok.Reads as reads
+use Rattle.chain.proofs.homed_ok.Lts as lts
+use Rattle.chain.proofs.rest_ok.Reads as rest-ok-reads
+use Rattle.chain.proofs.stretch_ok.Reads as stretch-ok-reads
 use Prim.Native.Nat.{ℕ, _+_, _*_, _-_, _≤_, _<_}
 use mathlib.Core.Path.{_≡_, refl, sym, ap, _∙_}
 use mathlib.Core.Bool.{true, false}
 use native.Mathlib.Omega.{arith}
-use borrow.Author.Needs.{needs}
-use borrow.Author.Tests.{le-ltb, lt-ltb, ne-eqb, eq-eqb}
+use borrow.Author.Tests.{not-true, not-false}
 use lib.ListN.{length, getD}
-use lib.Dec.{ltb}
 use denote.Ref.{now}
 use Rattle.chain.specs.Chain.{homeAt, homed}
-use Rattle.octets.proofs.Tests.{all-none, all-more, all-fails, and-false}
-use Rattle.chain.proofs.homed_ok.Statement.{statement}
-use Rattle.chain.proofs.homed_ok.Tie as tie
+use Rattle.octets.proofs.Tests.{all-none}
+use Rattle.chain.proofs.Step.{all-join, all-cut}
 
 abbrev Inv-loop : tie.InvT-loop
 Inv-loop list home b n i₀ i = (i ≤ n) × (homed home list b i ≡ true)
@@ -18,58 +21,53 @@ Inv-loop list home b n i₀ i = (i ≤ n) × (homed home list b i ≡ true)
 abbrev μ-loop : tie.MeasureT-loop
 μ-loop list home b n i₀ i = n - i
 
+-- src/lib.rt:102:5
 loop-holds : tie.Need-loop-holds Inv-loop μ-loop
-loop-holds c = (omega arith, all-none (homeAt (now (c .args .home)) (now (c .args .list)) (c .args .b)))
+loop-holds c = (omega arith, all-none _)
 
-mul-x : tie.Need-mul-x Inv-loop μ-loop
-mul-x c = omega arith
+-- src/lib.rt:102:11
+add-loop : tie.Need-add-loop Inv-loop μ-loop
+add-loop c = omega arith
 
-shared-slice-read-x : tie.Need-shared-slice-read-x Inv-loop μ-loop
-shared-slice-read-x c = omega arith
+-- src/lib.rt:103:13
+stretch-ok-requires : tie.Need-stretch-ok-requires Inv-loop μ-loop
+stretch-ok-requires c κs = (omega arith, omega arith, omega arith, omega arith, omega arith)
 
-cast-x : tie.Need-cast-x Inv-loop μ-loop
-cast-x c = omega (arith, c .shared-slice-known .given (c .before .before .loop .i))
-
+-- src/lib.rt:104:13
 returns : tie.Need-returns Inv-loop μ-loop
 returns c =
-    let a = c .before .before .before .before .args in
-    let i = c .before .before .before .loop .i in
-    sym (all-fails (homeAt (now (a .home)) (now (a .list)) (a .b)) i (a .n) (omega arith) (rw (le-ltb (getD (now (a .list)) i 0) (a .b) (c .if1 .taken))))
-
-mul-if2 : tie.Need-mul-if2 Inv-loop μ-loop
-mul-if2 c = omega arith
-
-shared-slice-read-if2 : tie.Need-shared-slice-read-if2 Inv-loop μ-loop
-shared-slice-read-if2 c = omega arith
-
-cast-if2 : tie.Need-cast-if2 Inv-loop μ-loop
-cast-if2 c = omega (arith, c .shared-slice-known2 .given (getD (now (c .before .before .before .before .before .args .list)) (c .before .before .before .before .loop .i) 0))
-
-returns-2 : tie.Need-returns-2 Inv-loop μ-loop
-returns-2 c =
     let a = c .before .before .before .before .before .before .args in
-    let i = c .before .before .before .before .before .loop .i in
-    let x = getD (now (a .list)) i 0 in
-    sym (all-fails (homeAt (now (a .home)) (now (a .list)) (a .b)) i (a .n) (omega arith) (rw (ne-eqb (getD (now (a .home)) x 0) i (c .if2 .taken)) (and-false (ltb x (a .b)))))
+    let p = homeAt (now (a .home)) (now (a .list)) (a .b) in
+    sym (all-cut p (c .before .before .before .loop .i + 64) (a .n) (omega arith) (sym (all-join p (c .before .before .before .loop .i) 64 (c .before .before .before .loop .i + 64) (c .before .before .before .loop .inv .1) refl) ∙ sym (c .before .stretch-ok .ensures) ∙ not-true _ (c .if1 .taken)))
 
+-- src/lib.rt:106:9
 add-i : tie.Need-add-i Inv-loop μ-loop
 add-i c = omega arith
 
+-- src/lib.rt:102:5
 loop-less : tie.Need-loop-less Inv-loop μ-loop
 loop-less c = omega arith
 
+-- src/lib.rt:102:5
 loop-again : tie.Need-loop-again Inv-loop μ-loop
 loop-again c =
     let a = c .before .before .before .before .before .before .args in
-    let i = c .before .before .before .before .before .loop .i in
-    let x = getD (now (a .list)) i 0 in
-    (omega arith, all-more (homeAt (now (a .home)) (now (a .list)) (a .b)) i (c .before .before .before .before .before .loop .inv .1) (rw (lt-ltb x (a .b) (c .before .before .if1 .left), eq-eqb (getD (now (a .home)) x 0) i (c .if2 .left))))
+    let p = homeAt (now (a .home)) (now (a .list)) (a .b) in
+    (omega arith, sym (all-join p (c .before .before .before .loop .i) 64 (c .before .before .before .loop .i + 64) (c .before .before .before .loop .inv .1) refl) ∙ sym (c .before .stretch-ok .ensures) ∙ not-false _ (c .if1 .left))
 
-returns-3 : tie.Need-returns-3 Inv-loop μ-loop
-returns-3 c =
-    let a = c .before .before .args in
-    let e : c .before .loop .i ≡ a .n = omega arith in
-    sym (ap (homed (now (a .home)) (now (a .list)) (a .b)) (sym e) ∙ c .before .loop .inv .1)
+-- src/lib.rt:108:31
+sub-rest-ok : tie.Need-sub-rest-ok Inv-loop μ-loop
+sub-rest-ok c = omega arith
+
+-- src/lib.rt:108:5
+rest-ok-requires : tie.Need-rest-ok-requires Inv-loop μ-loop
+rest-ok-requires c κs = (omega arith, omega arith, omega arith, omega arith)
+
+-- src/lib.rt:97:1
+returns-2 : tie.Need-returns-2 Inv-loop μ-loop
+returns-2 c =
+    let a = c .before .before .before .before .before .args in
+    c .rest-ok .ensures ∙ all-join (homeAt (now (a .home)) (now (a .list)) (a .b)) (c .before .before .loop .i) (a .n - c .before .before .loop .i) (a .n) (c .before .before .loop .inv .1) (omega arith)
 
 pub homed-ok-spec : {M : Type 1} → statement M
 homed-ok-spec =
@@ -78,15 +76,12 @@ homed-ok-spec =
     Inv-loop
     μ-loop
     loop-holds
-    mul-x
-    shared-slice-read-x
-    cast-x
+    add-loop
+    stretch-ok-requires
     returns
-    mul-if2
-    shared-slice-read-if2
-    cast-if2
-    returns-2
     add-i
     loop-less
     loop-again
-    returns-3)
+    sub-rest-ok
+    rest-ok-requires
+    returns-2)
