@@ -251,7 +251,33 @@ fn clnp_row(name: &str, blocks: u64, total: usize, n: usize, turns: usize, calls
     row(name, pieces.len(), rust, ours);
 }
 
+/// The packets that are parsed: data of several sizes, RR, a clear, and a call with twenty facilities.
+fn packets() -> Vec<(String, Vec<u8>)> {
+    let data = |n: usize| [&[0x10, 9, 0x22][..], &vec![0x55; n][..]].concat();
+    let mut call = vec![0x10, 9, 0x0B, 0x22, 0x12, 0x34, 40];
+    call.extend([0x02, 0x55].repeat(20));
+    call.extend([0xC1, 4, 1, 0, 0, 0x63, 0xAA, 0xBB]);
+    let mut all: Vec<_> = [20, 64, 128, 240].map(|n| (format!("data of {n}"), data(n))).into();
+    all.push(("RR".into(), vec![0x10, 9, 0x21]));
+    all.push(("clear".into(), vec![0x10, 9, 0x13, 0x05, 0x42]));
+    all.push(("call with 20 facilities".into(), call));
+    all
+}
+
+fn parsing() {
+    println!("\nparse_x25, ns; the last column is how many times the Rust's speed\n");
+    println!("| Packet | Rust | port | ratio |\n|---|---|---|---|");
+    let mut cells = vec![0u64; 4 * 300 + 64];
+    for (name, b) in packets() {
+        let rust = least(20, 20000, || assert!(black_box(parse_x25(black_box(&b))).is_some()));
+        let ours = least(20, 20000, || assert_eq!(store::parse_x25(black_box(&b), &mut cells), 0));
+        row(&name, 1, rust, ours);
+    }
+}
+
 fn main() {
+    parsing();
+    println!();
     single();
     println!("\npushes, ns each, b = 128 and 6 other units pending; the last column is how many times the Rust's speed\n");
     println!("| Traffic | Rust | pool | ratio |\n|---|---|---|---|");

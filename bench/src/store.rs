@@ -13,8 +13,9 @@ type H = *mut u16;
 type B = *mut u8;
 
 library! {
+    calls_parse_x25(b: *const u8, n: usize, out: *mut u64, no: usize) -> u64;
     calls_create(w: W, nw: usize, t: T, nt: usize, l: H, nl: usize, h: H, nh: usize, b: B, nb: usize, links: u64, blocks: u64, reserve: u64, cap: u64) -> bool;
-    calls_test(w: W, nw: usize, t: T, nt: usize, l: H, nl: usize, h: H, nh: usize, b: B, nb: usize) -> bool;
+    calls_test(w: W, nw: usize, t: T, nt: usize, l: H, nl: usize, h: H, nh: usize, b: B, nb: usize, kind: u64) -> bool;
     calls_find(w: W, nw: usize, t: T, nt: usize, l: H, nl: usize, h: H, nh: usize, b: B, nb: usize, link: usize, key: *const u64, nk: usize) -> usize;
     calls_room(w: W, nw: usize, link: usize, u: u64, k: u64, n: u64) -> u64;
     calls_add(w: W, nw: usize, t: T, nt: usize, l: H, nl: usize, h: H, nh: usize, b: B, nb: usize, link: usize, key: *const u64, nk: usize, note: u64, at: f64);
@@ -25,6 +26,11 @@ library! {
     calls_remove(w: W, nw: usize, t: T, nt: usize, l: H, nl: usize, h: H, nh: usize, b: B, nb: usize, link: usize, j: usize);
     calls_expire(w: W, nw: usize, t: T, nt: usize, l: H, nl: usize, h: H, nh: usize, b: B, nb: usize, link: usize, at: f64);
     calls_read(w: W, nw: usize, t: T, nt: usize, l: H, nl: usize, h: H, nh: usize, b: B, nb: usize, link: usize, j: usize, part: usize, out: B, no: usize, at: usize) -> usize;
+}
+
+/// The answer of `parse_x25`.
+pub fn parse_x25(b: &[u8], out: &mut [u64]) -> u64 {
+    unsafe { calls_parse_x25(b.as_ptr(), b.len(), out.as_mut_ptr(), out.len()) }
 }
 
 #[derive(Clone)]
@@ -55,7 +61,7 @@ impl Store {
     }
 
     pub fn test(&mut self) -> bool {
-        with!(self, calls_test)
+        with!(self, calls_test, 1)
     }
 
     pub fn units(&self, link: usize) -> usize {
