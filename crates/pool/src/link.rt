@@ -8,6 +8,7 @@ ghost use Rattle.octets.specs.Emit.{put};
 ghost use Rattle.tables.specs.Tables.{links, count, units, tablesOk};
 ghost use Rattle.pool.specs.View.{sound, pend, expired, emptied, keyIs, Found, refusal, placeWords, added, SameSettings};
 use crate::unit::remove;
+use tables::ledger::{ledger_of, over_of, recounted};
 
 // The units of link l that are not fresh are taken out.
 pub fn expire(
@@ -99,13 +100,6 @@ pub fn find(
     u
 }
 
-// What x is above r.
-fn above(x: u64, r: u64) -> u64
-    ensures { λ y. ⌜ y ≡ x - r ⌝ }
-{
-    if r < x { x - r } else { 0 }
-}
-
 // The answer on u units more and n blocks in the place of k for link l: 2, or the refusal.
 pub fn room(words: &[u64], l: usize, u: u64, k: u64, n: u64) -> u64
     requires { ⌜ (tablesOk (now words) ≡ true) × (l < links (now words)) × (u ≤ 1) × (k ≤ count (now words) l) × (n ≤ 65536) ⌝ }
@@ -119,10 +113,9 @@ pub fn room(words: &[u64], l: usize, u: u64, k: u64, n: u64) -> u64
     if words[4] < after {
         return 12;
     }
-    let links = words[1];
     let r = words[3];
-    let e = tables::excess(words, links as usize);
-    if words[2] - links * r + above(before, r) < e + above(after, r) {
+    let e = over_of(recounted(ledger_of(words), l, after), r);
+    if words[2] - words[1] * r < e {
         return 13;
     }
     2

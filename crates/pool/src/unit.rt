@@ -61,8 +61,7 @@ pub fn splice(
     ensures { λ _. ⌜ SameSettings (now (words .entry)) (now (words .exit)) ⌝ }
 {
     let b = words[2] as usize;
-    let links = words[1] as usize;
-    let m = tables::used(words, links);
+    let m = tables::ledger::all_used(words);
     let s = start_of(words, l, j);
     let a = part_start(words, 8 * l + j, part, s);
     let k = words[40 + 12 * (8 * l + j) + (9 + part)] as usize;
@@ -93,8 +92,7 @@ pub fn zeros(
     ensures { λ _. ⌜ SameSettings (now (words .entry)) (now (words .exit)) ⌝ }
 {
     let b = words[2] as usize;
-    let links = words[1] as usize;
-    let m = tables::used(words, links);
+    let m = tables::ledger::all_used(words);
     let s = start_of(words, l, j);
     let a = part_start(words, 8 * l + j, part, s);
     let k = words[40 + 12 * (8 * l + j) + (9 + part)] as usize;
@@ -123,8 +121,7 @@ pub fn write(
     ensures { λ _. ⌜ pend (now (words .entry)) (now (times .entry)) (now (list .entry)) (now (blocks .exit)) ≡ written (pend (now (words .entry)) (now (times .entry)) (now (list .entry)) (now (blocks .entry))) l j part o (now (src .entry)) ⌝ }
 {
     let b = words[2] as usize;
-    let links = words[1] as usize;
-    let m = tables::used(words, links);
+    let m = tables::ledger::all_used(words);
     let s = start_of(words, l, j);
     let a = part_start(words, 8 * l + j, part, s);
     chain::write_at(list, blocks, b, m, 64 * a + o, src);
@@ -161,8 +158,7 @@ pub fn remove(
     ensures { λ _. ⌜ units (now (words .exit)) l ≡ units (now (words .entry)) l - 1 ⌝ }
 {
     let b = words[2] as usize;
-    let links = words[1] as usize;
-    let m = tables::used(words, links);
+    let m = tables::ledger::all_used(words);
     let s = start_of(words, l, j);
     let k = tables::place_cost(words, 8 * l + j);
     chain::release(list, home, b, m, s, s + k as usize);
@@ -210,8 +206,7 @@ pub fn read(
     ensures { λ _. ⌜ now (out .exit) ≡ put (now (out .entry)) at (partOf part (unitOf (pend (now (words .entry)) (now (times .entry)) (now (list .entry)) (now (blocks .entry))) l j)) ⌝ }
 {
     let b = words[2] as usize;
-    let links = words[1] as usize;
-    let m = tables::used(words, links);
+    let m = tables::ledger::all_used(words);
     let s = start_of(words, l, j);
     let a = part_start(words, 8 * l + j, part, s);
     let d = words[40 + 12 * (8 * l + j) + (7 + part)] as usize;

@@ -46,6 +46,20 @@ over-set r g l x h n =
     sum-one (λ i. getD g i 0 - r) (λ i. getD (set g l x) i 0 - r) 16 l h (λ i q ne. ap (λ (y : ℕ). y - r) (getD-set-other g l i x 0 ne))
     ∙ ap (λ (y : ℕ). over r g + (y - r)) (getD-set-same g l x 0 (omega arith))
 
+module _ (w : List ℕ) (set-up : settingsOk w ≡ true) (each : all (linkAt w) 16 ≡ true) (l x : ℕ) (h : l < 16) (long : 24 ≤ length w) where
+  pub over-after : over (reserve w) (set (counts w) l x) + (count w l - reserve w) ≡ excessOf w (links w) + (x - reserve w)
+  over-after =
+      ap (λ (y : ℕ). over (reserve w) (set (counts w) l x) + (y - reserve w)) (sym (count-at w l h))
+      ∙ over-set (reserve w) (counts w) l x h (length-counts w long)
+      ∙ ap (λ (y : ℕ). y + (x - reserve w)) (over-is w set-up each)
+
+  pub after-low : x ≤ 1024 → (i : ℕ) → i < 16 → getD (set (counts w) l x) i 0 ≤ 1024
+  after-low low i q = go (eqb i l) refl
+    where
+      go : (t : Bool) → eqb i l ≡ t → getD (set (counts w) l x) i 0 ≤ 1024
+      go true e = let z : i ≡ l = eqb-true i l e in rw z (omega (arith, low, getD-set-same (counts w) l x 0 (omega (arith, h, length-counts w long))))
+      go false e = omega (arith, getD-set-other (counts w) l i x 0 (eqb-false i l e), ledger-low w set-up each i q)
+
 -- a ledger with one count changed, stored
 pub put-count : (w : List ℕ) (l x : ℕ) → l < 16 → 24 ≤ length w → put w 8 (set (counts w) l x) ≡ set w (8 + l) x
 put-count w l x h long =
