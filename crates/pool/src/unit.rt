@@ -7,6 +7,7 @@ ghost use Rattle.octets.specs.Emit.{put};
 ghost use Rattle.model.specs.Cost.{blocks as blocksFor};
 ghost use Rattle.tables.specs.Tables.{links, units, word, count, placeCost, tablesOk};
 ghost use Rattle.pool.specs.View.{sound, pend, startOf, partAt, Room, SameSettings, spliced, written, spliceWords, removed, lessWords, lessTimes, marked, unitOf, partOf};
+use tables::ledger::{ledger_of, recounted, set_ledger};
 
 // The block from which on place j of link l stands.
 pub fn start_of(words: &[u64], l: usize, j: usize) -> usize
@@ -37,7 +38,7 @@ fn set_part(words: &mut [u64], l: usize, j: usize, part: usize, x: u64, n: u64)
     let c = words[8 + l];
     words[at + (7 + part)] = x;
     words[at + (9 + part)] = n;
-    words[8 + l] = c + n - k;
+    set_ledger(words, recounted(ledger_of(words), l, c + n - k));
 }
 
 // A part of unit j of link l from its octet d on becomes src.
@@ -137,7 +138,7 @@ fn take_place(words: &mut [u64], times: &mut [f64], l: usize, j: usize, k: u64)
     shift::down64(words, 40 + 12 * (8 * l + j), 12, 40 + 12 * (8 * l + u));
     shift::downf(times, 8 * l + j, 1, 8 * l + u);
     words[24 + l] = (u - 1) as u64;
-    words[8 + l] = c - k;
+    set_ledger(words, recounted(ledger_of(words), l, c - k));
 }
 
 // Unit j of link l is taken out.

@@ -94,3 +94,7 @@ put-count w l x h long =
             ∙ put-same (set (counts w) l x) w 8 (i - 8) 0 (omega (arith, many)) (omega (arith, many))
             ∙ inside (i - 8) p (eqb (i - 8) l) refl
             ∙ ap (λ (y : ℕ). getD (set w (8 + l) x) y 0) (sym q)
+
+-- the same by what the functions ensure: the ledger g of w, then h of it, then w' with h stored
+pub stored : (w w' g h : List ℕ) (l x : ℕ) → l < 16 → 24 ≤ length w → g ≡ counts w → h ≡ set g l x → w' ≡ put w 8 h → w' ≡ set w (8 + l) x
+stored w w' g h l x low long a b c = c ∙ ap (put w 8) (b ∙ ap (λ (q : List ℕ). set q l x) a) ∙ put-count w l x low long
