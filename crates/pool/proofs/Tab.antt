@@ -1,14 +1,17 @@
 -- Laws of `tab` over functions that agree.
-use Prim.Native.Nat.{ℕ, zero, suc, _<_}
-use mathlib.Core.Path.{_≡_, refl, sym, _∙_}
+use Prim.Native.Nat.{ℕ, zero, suc, _+_, _<_}
+use mathlib.Core.Path.{_≡_, refl, sym, ap, _∙_}
 use mathlib.Core.Bool.{Bool, true, false}
-use mathlib.Core.List.{[], _∷_, _++_}
+use mathlib.Core.List.{List, [], _∷_, _++_}
 use native.Mathlib.Omega.{arith}
 use lib.Dec.{eqb}
 use lib.ListN.{length, getD, set, length-append}
 use lib.ListN.{List·getD-append}
 use lib.Seq.{getD-at, set-append-left, set-at}
 use borrow.Author.Tests.{eqb-true, eqb-false}
+use native.Mathlib.Numerals.{add-one}
+use Rattle.octets.specs.Emit.{put}
+use Rattle.octets.proofs.Put.{put-one, put-put}
 use Rattle.pool.specs.View.{tab}
 
 module _ {A : Type 0} where
@@ -46,3 +49,16 @@ module _ {A : Type 0} where
       go ih true e = rw (eqb-true i n e) (getD-at (tab f n) (f n) [] d n (length-tab f n))
       go ih false e =
           List·getD-append (tab f n) (f n ∷ []) d i (omega (arith, length-tab f n, eqb-false i n e)) ∙ ih (omega (arith, eqb-false i n e))
+
+  tab-next : (f : ℕ → A) (i : ℕ) → tab f (i + 1) ≡ tab f i ++ (f i ∷ [])
+  unfolding tab
+  tab-next f i = rw add-one
+
+  -- a turn of a loop that writes a table from the front
+  pub put-tab : (f : ℕ → A) (d : List A) (i : ℕ) → set (put d 0 (tab f i)) i (f i) ≡ put d 0 (tab f (i + 1))
+  put-tab f d i =
+      let z : i ≡ 0 + length (tab f i) = omega (arith, length-tab f i) in
+      sym (put-one (put d 0 (tab f i)) i (f i))
+      ∙ ap (λ (k : ℕ). put (put d 0 (tab f i)) k (f i ∷ [])) z
+      ∙ put-put d 0 (tab f i) (f i ∷ [])
+      ∙ ap (put d 0) (sym (tab-next f i))
