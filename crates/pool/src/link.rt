@@ -4,9 +4,9 @@ ghost use mathlib.Core.Bool.{true};
 ghost use mathlib.Core.List.{[]};
 ghost use Prim.Native.Nat.{_+_, _*_, _-_, _≤_, _<_};
 ghost use lib.ListN.{length, getD};
-ghost use Rattle.octets.specs.Emit.{put};
 ghost use Rattle.tables.specs.Tables.{links, count, units, tablesOk};
-ghost use Rattle.pool.specs.View.{sound, pend, expired, emptied, keyIs, Found, refusal, placeWords, added, SameSettings};
+ghost use Rattle.pool.specs.View.{sound, pend, expired, emptied, keyIs, Found, refusal, added, SameSettings};
+use crate::place::{empty_place, set_place};
 use crate::unit::remove;
 use tables::ledger::{ledger_of, over_of, recounted};
 
@@ -121,24 +121,6 @@ pub fn room(words: &[u64], l: usize, u: u64, k: u64, n: u64) -> u64
     2
 }
 
-// Place p has this key and note, and no octets.
-fn set_place(words: &mut [u64], p: usize, key: &[u64], note: u64)
-    requires { ⌜ (p < 128) × (1576 ≤ length (now words)) × (length (now key) ≡ 6) ⌝ }
-    ensures { λ _. ⌜ now (words .exit) ≡ put (now (words .entry)) (40 + 12 * p) (placeWords (now (key .entry)) note) ⌝ }
-{
-    let at = 40 + 12 * p;
-    let mut k: usize = 0;
-    while k < 6 {
-        words[at + k] = key[k];
-        k += 1;
-    }
-    words[at + 6] = note;
-    words[at + 7] = 0;
-    words[at + 8] = 0;
-    words[at + 9] = 0;
-    words[at + 10] = 0;
-}
-
 // A unit with this key, note and time, and no octets, is the last of link l.
 pub fn add(
     words: &mut [u64],
@@ -160,7 +142,6 @@ pub fn add(
     ensures { λ _. ⌜ units (now (words .exit)) l ≡ units (now (words .entry)) l + 1 ⌝ }
 {
     let u = words[24 + l] as usize;
-    set_place(words, 8 * l + u, key, note);
+    set_place(words, times, 8 * l + u, empty_place(key, note, at));
     words[24 + l] = (u + 1) as u64;
-    times[8 * l + u] = at;
 }

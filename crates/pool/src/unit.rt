@@ -7,6 +7,7 @@ ghost use Rattle.octets.specs.Emit.{put};
 ghost use Rattle.model.specs.Cost.{blocks as blocksFor};
 ghost use Rattle.tables.specs.Tables.{links, units, word, count, placeCost, tablesOk};
 ghost use Rattle.pool.specs.View.{sound, pend, startOf, partAt, Room, SameSettings, spliced, written, spliceWords, removed, lessWords, lessTimes, marked, unitOf, partOf};
+use crate::place::{place_at, set_place};
 use tables::ledger::{ledger_of, recounted, set_ledger};
 
 // The block from which on place j of link l stands.
@@ -184,8 +185,10 @@ pub fn mark(
     ensures { λ _. ⌜ pend (now (words .exit)) (now (times .exit)) (now (list .entry)) (now (blocks .entry)) ≡ marked (pend (now (words .entry)) (now (times .entry)) (now (list .entry)) (now (blocks .entry))) l j note at ⌝ }
     ensures { λ _. ⌜ SameSettings (now (words .entry)) (now (words .exit)) ⌝ }
 {
-    words[40 + 12 * (8 * l + j) + 6] = note;
-    times[8 * l + j] = at;
+    let mut q = place_at(words, times, 8 * l + j);
+    q.note = note;
+    q.time = at;
+    set_place(words, times, 8 * l + j, q);
 }
 
 // A part of unit j of link l is written into out from index at on; its length.
