@@ -6,7 +6,7 @@ ghost use Prim.Native.Nat.{_+_, _*_, _-_, _≤_, _<_};
 ghost use lib.ListN.{length, getD};
 ghost use Rattle.tables.specs.Tables.{links, count, units, tablesOk};
 ghost use Rattle.pool.specs.View.{sound, pend, expired, emptied, keyIs, Found, refusal, added, SameSettings};
-use crate::place::{empty_place, set_place};
+use crate::place::{empty_place, place_at, set_place};
 use crate::unit::remove;
 use tables::ledger::{ledger_of, over_of, recounted};
 
@@ -29,7 +29,8 @@ pub fn expire(
     let mut j: usize = 0;
     let mut u = words[24 + l] as usize;
     while j < u {
-        if clock::fresh(at, times[8 * l + j]) {
+        let q = place_at(words, times, 8 * l + j);
+        if clock::fresh(at, q.time) {
             j += 1;
         } else {
             remove(words, times, list, home, blocks, l, j);
