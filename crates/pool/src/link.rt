@@ -6,9 +6,13 @@ ghost use Prim.Native.Nat.{_+_, _*_, _-_, _≤_, _<_};
 ghost use lib.ListN.{length, getD};
 ghost use Rattle.tables.specs.Tables.{links, count, units, tablesOk};
 ghost use Rattle.pool.specs.View.{sound, pend, expired, emptied, keyIs, Found, refusal, added, SameSettings};
-use crate::place::{empty_place, place_at, set_place};
+use crate::place::empty_place;
+use crate::place::place_at;
+use crate::place::set_place;
 use crate::unit::remove;
-use tables::ledger::{ledger_of, over_of, recounted};
+use tables::ledger::ledger_of;
+use tables::ledger::over_of;
+use tables::ledger::recounted;
 
 // The units of link l that are not fresh are taken out.
 pub fn expire(

@@ -7,8 +7,11 @@ ghost use Rattle.octets.specs.Emit.{put};
 ghost use Rattle.model.specs.Cost.{blocks as blocksFor};
 ghost use Rattle.tables.specs.Tables.{links, units, word, count, placeCost, tablesOk};
 ghost use Rattle.pool.specs.View.{sound, pend, startOf, partAt, Room, SameSettings, spliced, written, spliceWords, removed, lessWords, lessTimes, marked, unitOf, partOf};
-use crate::place::{place_at, set_place};
-use tables::ledger::{ledger_of, recounted, set_ledger};
+use crate::place::place_at;
+use crate::place::set_place;
+use tables::ledger::ledger_of;
+use tables::ledger::recounted;
+use tables::ledger::set_ledger;
 
 // The block from which on place j of link l stands.
 pub fn start_of(words: &[u64], l: usize, j: usize) -> usize

@@ -91,13 +91,12 @@ returns c =
     let q = c .before .before .before .before .before .empty-place .ensures in
     let v : c .before .before .before .before .set-place .last .0 ≡ put w (40 + 12 * (8 * a .l + units w (a .l))) (placeWords (now (a .key)) (a .note)) = added-words w _ (now (a .key)) _ (8 * a .l + units w (a .l)) (a .note) _ _ _ _ _ (q .0) (q .1 .0 .0) (q .1 .0 .1) (q .1 .0 .2) (q .1 .0 .3) (q .1 .0 .4) (c .before .before .before .before .set-place .ensures .0) in
     let e = ap (λ (x : List ℕ). set x (24 + a .l) (units w (a .l) + 1)) v in
-    let f : c .before .before .before .before .set-place .last .1 .0 ≡ set tm (8 * a .l + units w (a .l)) (a .at) = c .before .before .before .before .set-place .ensures .1 ∙ ap (set tm (8 * a .l + units w (a .l))) (q .1 .1) in
-    (
+    let f : c .before .before .before .before .set-place .last .1 .0 ≡ set tm (8 * a .l + units w (a .l)) (a .at) = c .before .before .before .before .set-place .ensures .1 ∙ ap (set tm (8 * a .l + units w (a .l))) (q .1 .1) in (
       ap₂ (λ (x : List ℕ) (y : List Float). sound x y (now (a .list)) (now (a .home)) (now (a .blocks))) e f
-      ∙ good-of _ _ _ _ _ (added-good w tm (now (a .list)) (now (a .home)) (now (a .blocks)) (a .l) (now (a .key)) (a .note) (a .at) g (h .0) (h .1) (h .2) free),
+          ∙ good-of _ _ _ _ _ (added-good w tm (now (a .list)) (now (a .home)) (now (a .blocks)) (a .l) (now (a .key)) (a .note) (a .at) g (h .0) (h .1) (h .2) free),
       (
         ap₂ (λ (x : List ℕ) (y : List Float). pend x y (now (a .list)) (now (a .blocks))) e f
-        ∙ added-pend w tm (now (a .list)) (now (a .home)) (now (a .blocks)) (a .l) (now (a .key)) (a .note) (a .at) g (h .0) (h .1) (h .2) free,
+            ∙ added-pend w tm (now (a .list)) (now (a .home)) (now (a .blocks)) (a .l) (now (a .key)) (a .note) (a .at) g (h .0) (h .1) (h .2) free,
         (
           subst (λ (x : List ℕ). SameSettings w x) (sym e) (add-settings w tm (a .l) (now (a .key)) (a .note) (a .at) (g .tab) (g .places) (h .0) (h .1) (h .2)),
           ap (λ (x : List ℕ). units x (a .l)) e ∙ units-now w tm (now (a .list)) (now (a .home)) (now (a .blocks)) (a .l) (now (a .key)) (a .note) (a .at) g (h .0) (h .1) (h .2) free,

@@ -77,8 +77,7 @@ returns-7 c =
     let a = c .before .before .before .before .before .before .before .before .before .before .before .before .before .before .before .before .before .before .before .before .args in
     let list' : List ℕ = c .before .before .in-order .last .0 in
     let e = last-test (now (a .words)) (now (a .times)) list' (now (a .home)) (now (a .blocks)) (a .n) (a .b) (a .r) (a .c) (sym (c .before .before .before .before .before .before .before .before .before .before .before .before .before .before .settings-allowed .ensures) ∙ not-false _ (c .before .before .before .before .before .before .before .before .before .before .before .before .before .if1 .left)) (c .before .before .before .before .before .before .before .before .before .before .before .before .if2 .left) (c .before .before .before .before .before .before .before .before .before .before .before .if3 .left) (omega (arith, c .before .before .in-order .kept .0, c .before .before .before .before .before .before .before .before .before .before .if4 .left)) (c .before .before .before .before .before .before .before .before .before .if5 .left) ∙ le-leb (64 * a .b) (length (now (a .blocks))) (c .before .before .before .before .before .before .before .before .if6 .left) in
-    let s = c .before .before .before .before .before .before .set-new .ensures in
-    (
+    let s = c .before .before .before .before .before .before .set-new .ensures in (
       sym e,
       (
         s,

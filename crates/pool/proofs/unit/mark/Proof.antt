@@ -67,13 +67,12 @@ returns c =
     let h = s .pre .1 in
     let q = c .before .before .before .before .before .before .before .place-at .ensures in
     let e : c .before .before .before .before .set-place .last .0 ≡ markWords w (a .l) (a .j) (a .note) = marked-words w _ _ (8 * a .l + a .j) (a .note) _ _ _ _ (omega (arith, rd s)) (q .0) (q .1 .1 .0) (q .1 .1 .1 .0) (q .1 .1 .1 .1 .0) (q .1 .1 .1 .1 .1 .0) (c .before .before .before .before .set-place .ensures .0) in
-    let f : c .before .before .before .before .set-place .last .1 .0 ≡ set tm (8 * a .l + a .j) (a .at) = c .before .before .before .before .set-place .ensures .1 in
-    (
+    let f : c .before .before .before .before .set-place .last .1 .0 ≡ set tm (8 * a .l + a .j) (a .at) = c .before .before .before .before .set-place .ensures .1 in (
       ap₂ (λ (x : List ℕ) (y : List Float). sound x y (now (a .list)) (now (a .home)) (now (a .blocks))) e f
-      ∙ good-of _ _ _ _ _ (marked-good w tm (now (a .list)) (now (a .home)) (now (a .blocks)) (a .l) (a .j) (a .note) (a .at) g (h .0) (h .1)),
+          ∙ good-of _ _ _ _ _ (marked-good w tm (now (a .list)) (now (a .home)) (now (a .blocks)) (a .l) (a .j) (a .note) (a .at) g (h .0) (h .1)),
       (
         ap₂ (λ (x : List ℕ) (y : List Float). pend x y (now (a .list)) (now (a .blocks))) e f
-        ∙ marked-pend w tm (now (a .list)) (now (a .home)) (now (a .blocks)) (a .l) (a .j) (a .note) (a .at) g (h .0) (h .1),
+            ∙ marked-pend w tm (now (a .list)) (now (a .home)) (now (a .blocks)) (a .l) (a .j) (a .note) (a .at) g (h .0) (h .1),
         subst (λ (x : List ℕ). SameSettings w x) (sym e) (mark-settings w tm (a .l) (a .j) (a .note) (a .at) (g .tab) (g .places) (h .0) (h .1)),
       ),
     )

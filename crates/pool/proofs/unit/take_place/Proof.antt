@@ -103,10 +103,9 @@ same-length-2 c = search needs
 returns : tie.Need-returns
 returns c =
     let a = c .before .before .before .before .before .before .before .before .before .before .before .before .before .before .before .before .before .before .before .args in
-    let w = now (a .words) in
-    (
+    let w = now (a .words) in (
       stored _ _ _ _ (a .l) (count w (a .l) - a .k) (c .before .before .before .before .before .before .before .before .before .before .before .before .before .before .before .before .before .before .before .pre .0) (simp length-set (omega (arith, c .before .before .before .before .before .before .before .before .before .before .before .before .before .down64 .kept .0, c .before .before .before .before .before .before .before .before .before .before .before .before .before .before .before .before .before .before .before .pre))) (c .before .before .before .before .ledger-of .ensures) (c .before .before .before .recounted .ensures) (c .before .before .set-ledger .ensures)
-      ∙ ap₂ (λ (x : List ℕ) (k : ℕ). set (set x (24 + a .l) (units w (a .l) - 1)) (8 + a .l) (count w (a .l) - k)) (c .before .before .before .before .before .before .before .before .before .before .before .before .before .down64 .ensures) (c .before .before .before .before .before .before .before .before .before .before .before .before .before .before .before .before .before .before .before .pre .5),
+          ∙ ap₂ (λ (x : List ℕ) (k : ℕ). set (set x (24 + a .l) (units w (a .l) - 1)) (8 + a .l) (count w (a .l) - k)) (c .before .before .before .before .before .before .before .before .before .before .before .before .before .down64 .ensures) (c .before .before .before .before .before .before .before .before .before .before .before .before .before .before .before .before .before .before .before .pre .5),
       c .before .before .before .before .before .before .before .before .before .downf .ensures,
     )
 
