@@ -22,7 +22,8 @@ use Rattle.tables.specs.Tables.{links, blocksIn, reserve, cap, count, units, wo
 use Rattle.tables.proofs.Laws.{Tables, settings, Link, place-of}
 use Rattle.pool.specs.View.{Unit, blank, Found, placeWords, addWords, addedU, added, SameSettings, tab, startOf, unitAt, linkUnits, octets, pend}
 use Rattle.pool.proofs.Good.{Good}
-use Rattle.pool.proofs.Tab.{sum-same, sum-suc, tab-same, length-tab, getD-tab}
+use Rattle.tables.proofs.Sums.{sum-same, sum-suc}
+use Rattle.pool.proofs.Tab.{tab-same, length-tab, getD-tab}
 use Rattle.pool.proofs.Change.{SamePlace, places-same, costs-same, keys-same, Elsewhere, tables-change, excess-change, view-change, used-after}
 use Rattle.pool.proofs.Near.{own}
 use Rattle.pool.proofs.Keys.{key-of}

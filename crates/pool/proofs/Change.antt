@@ -16,7 +16,8 @@ use Rattle.model.specs.Cost.{blocks}
 use Rattle.tables.specs.Tables.{links, blocksIn, reserve, cap, count, units, word, sum, placeOk, placesOk, placeCost, costs, wordEq, keyEq, keyNew, keysOk, settingsOk, linkOk, idle, linkAt, usedOf, excessOf, tablesOk}
 use Rattle.tables.proofs.Laws.{Tables, Settings, settings, Place, place, Link, link, link-of, link-is, idle-is}
 use Rattle.pool.specs.View.{Unit, SameSettings, tab, startOf, unitAt, linkUnits, octets, pend}
-use Rattle.pool.proofs.Tab.{all-same, sum-same, sum-up, sum-in, sum-suc, sum-one, tab-same, set-tab, length-tab}
+use Rattle.tables.proofs.Sums.{all-same, sum-same, sum-up, sum-in, sum-suc, sum-one}
+use Rattle.pool.proofs.Tab.{tab-same, set-tab, length-tab}
 
 abbrev pub SamePlace : List ℕ → List ℕ → ℕ → Type 0
 SamePlace w w' q = (k : ℕ) → k < 11 → word w' q k ≡ word w q k

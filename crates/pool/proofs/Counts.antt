@@ -17,7 +17,7 @@ use Rattle.tables.proofs.Laws.{used-fits, Place, place, idle-is}
 use Rattle.pool.specs.View.{Unit, tab, startOf, unitAt, linkUnits, octets, pend}
 use Rattle.pool.specs.Shares.{costOf, inUse, excesses}
 use Rattle.pool.specs.Kinds.{Spelt}
-use Rattle.pool.proofs.Tab.{sum-same, sum-in}
+use Rattle.tables.proofs.Sums.{sum-same, sum-in}
 use Rattle.pool.proofs.Good.{Good}
 use Rattle.pool.proofs.Near.{own, link-inside}
 use Rattle.pool.proofs.Expired.{link-view}

@@ -20,7 +20,8 @@ use Rattle.shift.proofs.Laws.{shifted-is}
 use Rattle.tables.specs.Tables.{links, blocksIn, reserve, cap, count, units, word, sum, placeOk, placesOk, placeCost, costs, wordEq, keyEq, keyNew, keysOk, linkAt, usedOf, excessOf}
 use Rattle.tables.proofs.Laws.{Tables, settings, Place, place-of, Link, used-fits}
 use Rattle.pool.specs.View.{Unit, blank, SameSettings, lessWords, lessTimes, tab, startOf, unitAt, linkUnits, octets, pend, without, removed}
-use Rattle.pool.proofs.Tab.{all-same, sum-same, sum-up, sum-in, sum-suc, sum-one, tab-same, length-tab, getD-tab}
+use Rattle.tables.proofs.Sums.{all-same, sum-same, sum-up, sum-in, sum-suc, sum-one}
+use Rattle.pool.proofs.Tab.{tab-same, length-tab, getD-tab}
 use Rattle.pool.proofs.Change.{place-at, Elsewhere, tables-change, excess-change, view-change, used-before, used-after}
 use Rattle.pool.proofs.Good.{Good}
 use Rattle.pool.proofs.Near.{own, inside, link-inside}

@@ -16,6 +16,7 @@ pub mod Counts
 pub mod Shares
 pub mod Exact
 pub mod Passing
+pub mod Places
 pub mod Model
 pub mod Steps
 pub mod Determined

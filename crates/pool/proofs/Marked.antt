@@ -11,7 +11,8 @@ use Rattle.tables.specs.Tables.{links, blocksIn, reserve, cap, count, units, wo
 use Rattle.tables.proofs.Laws.{Tables, settings, Link}
 use Rattle.pool.specs.View.{Unit, blank, markedU, marked, markWords, SameSettings, tab, startOf, unitAt, linkUnits, octets, pend}
 use Rattle.pool.proofs.Good.{Good}
-use Rattle.pool.proofs.Tab.{all-same, sum-same, tab-same, set-tab, getD-tab}
+use Rattle.tables.proofs.Sums.{all-same, sum-same}
+use Rattle.pool.proofs.Tab.{tab-same, set-tab, getD-tab}
 use Rattle.pool.proofs.Change.{keys-kept-by, Elsewhere, tables-change, excess-change, view-change, used-after}
 use Rattle.pool.proofs.Near.{own}
 

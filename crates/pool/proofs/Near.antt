@@ -14,7 +14,7 @@ use Rattle.model.specs.Cost.{blocks}
 use Rattle.tables.specs.Tables.{links, blocksIn, reserve, cap, count, units, word, sum, placeCost, costs, linkAt, usedOf, excessOf}
 use Rattle.tables.proofs.Laws.{Tables, settings, Place, Link, link, link-is, used-fits, above}
 use Rattle.pool.specs.View.{startOf, partAt, Room}
-use Rattle.pool.proofs.Tab.{sum-up, sum-in}
+use Rattle.tables.proofs.Sums.{sum-up, sum-in}
 use Rattle.pool.proofs.Change.{place-at}
 
 -- a part is the body or the top

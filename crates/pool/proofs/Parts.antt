@@ -19,7 +19,8 @@ use Rattle.tables.specs.Tables.{links, blocksIn, reserve, cap, count, units, wo
 use Rattle.tables.proofs.Laws.{Tables, settings, Place, place-of, Link, used-fits}
 use Rattle.pool.specs.View.{Unit, blank, unitOf, withUnit, bodyFrom, topFrom, partFrom, partAt, spliceWords, spliced, SameSettings, Room, tab, startOf, unitAt, linkUnits, octets, pend}
 use Rattle.pool.proofs.Good.{Good}
-use Rattle.pool.proofs.Tab.{sum-in, sum-one, tab-same, set-tab, getD-tab}
+use Rattle.tables.proofs.Sums.{sum-in, sum-one}
+use Rattle.pool.proofs.Tab.{tab-same, set-tab, getD-tab}
 use Rattle.pool.proofs.Change.{SamePlace, place-same, cost-same, costs-same, keys-kept-by, place-at, Elsewhere, tables-change, excess-change, view-change, used-before, used-after}
 use Rattle.pool.proofs.Near.{two, own, inside, link-inside, Near, near, Sizes, sizes}
 

@@ -13,7 +13,8 @@ use Rattle.octets.proofs.Tests.{and-left, and-right}
 use Rattle.tables.specs.Tables.{links, units}
 use Rattle.pool.specs.View.{Unit, blank, tab, startOf, unitAt, linkUnits, octets, pend, sound, unitOf, withUnit, without, removed, keepU, expired, emptied, markedU, marked, addedU, added, partFrom, spliced, partPut, written}
 use Rattle.pool.specs.Kinds.{passU, passing, soundOf, anyUnit}
-use Rattle.pool.proofs.Tab.{all-same, getD-tab}
+use Rattle.tables.proofs.Sums.{all-same}
+use Rattle.pool.proofs.Tab.{getD-tab}
 use Rattle.pool.proofs.Expired.{link-view}
 
 and-both : (p q : Bool) → p ≡ true → q ≡ true → (p && q) ≡ true

@@ -19,7 +19,8 @@ use Rattle.tables.specs.Tables.{links, blocksIn, count, units, word, placeCost,
 use Rattle.tables.proofs.Laws.{Tables, Place, used-fits}
 use Rattle.pool.specs.View.{Unit, blank, partAt, partPut, written, tab, startOf, unitAt, linkUnits, octets, pend}
 use Rattle.pool.proofs.Good.{Good}
-use Rattle.pool.proofs.Tab.{sum-in, set-tab, getD-tab}
+use Rattle.tables.proofs.Sums.{sum-in}
+use Rattle.pool.proofs.Tab.{set-tab, getD-tab}
 use Rattle.pool.proofs.Change.{place-at, Elsewhere, view-change}
 use Rattle.pool.proofs.Near.{two, own, inside, link-inside, Ready, ready, sizes}
 use Rattle.pool.proofs.Expired.{settings-refl}

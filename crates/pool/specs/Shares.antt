@@ -5,12 +5,12 @@ use mathlib.Core.Bool.{cond}
 use mathlib.Core.List.{List, [], _∷_, _++_}
 use lib.Dec.{ltb}
 use lib.ListN.{length, getD, set}
-use Rattle.model.specs.Cost.{blocks}
+use Rattle.model.specs.Cost.{blocks, unitCost}
 use Rattle.pool.specs.View.{Unit, blank}
 
 -- the blocks of a unit, of a link's units, and what all links use above the reserve
 abbrev pub costOf : Unit → ℕ
-costOf u = blocks (length (u .body)) + blocks (length (u .top))
+costOf u = unitCost (blocks (length (u .body))) (blocks (length (u .top)))
 
 unfoldable pub inUse : List Unit → ℕ
 inUse [] = 0

@@ -2,5 +2,6 @@
 // docs/STORE.md has every offset.
 pub mod link;
 pub mod make;
+pub mod place;
 pub mod test;
 pub mod unit;

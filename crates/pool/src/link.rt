@@ -4,10 +4,15 @@ ghost use mathlib.Core.Bool.{true};
 ghost use mathlib.Core.List.{[]};
 ghost use Prim.Native.Nat.{_+_, _*_, _-_, _≤_, _<_};
 ghost use lib.ListN.{length, getD};
-ghost use Rattle.octets.specs.Emit.{put};
 ghost use Rattle.tables.specs.Tables.{links, count, units, tablesOk};
-ghost use Rattle.pool.specs.View.{sound, pend, expired, emptied, keyIs, Found, refusal, placeWords, added, SameSettings};
+ghost use Rattle.pool.specs.View.{sound, pend, expired, emptied, keyIs, Found, refusal, added, SameSettings};
+use crate::place::empty_place;
+use crate::place::place_at;
+use crate::place::set_place;
 use crate::unit::remove;
+use tables::ledger::ledger_of;
+use tables::ledger::over_of;
+use tables::ledger::recounted;
 
 // The units of link l that are not fresh are taken out.
 pub fn expire(
@@ -28,7 +33,8 @@ pub fn expire(
     let mut j: usize = 0;
     let mut u = words[24 + l] as usize;
     while j < u {
-        if clock::fresh(at, times[8 * l + j]) {
+        let q = place_at(words, times, 8 * l + j);
+        if clock::fresh(at, q.time) {
             j += 1;
         } else {
             remove(words, times, list, home, blocks, l, j);
@@ -99,13 +105,6 @@ pub fn find(
     u
 }
 
-// What x is above r.
-fn above(x: u64, r: u64) -> u64
-    ensures { λ y. ⌜ y ≡ x - r ⌝ }
-{
-    if r < x { x - r } else { 0 }
-}
-
 // The answer on u units more and n blocks in the place of k for link l: 2, or the refusal.
 pub fn room(words: &[u64], l: usize, u: u64, k: u64, n: u64) -> u64
     requires { ⌜ (tablesOk (now words) ≡ true) × (l < links (now words)) × (u ≤ 1) × (k ≤ count (now words) l) × (n ≤ 65536) ⌝ }
@@ -119,31 +118,12 @@ pub fn room(words: &[u64], l: usize, u: u64, k: u64, n: u64) -> u64
     if words[4] < after {
         return 12;
     }
-    let links = words[1];
     let r = words[3];
-    let e = tables::excess(words, links as usize);
-    if words[2] - links * r + above(before, r) < e + above(after, r) {
+    let e = over_of(recounted(ledger_of(words), l, after), r);
+    if words[2] - words[1] * r < e {
         return 13;
     }
     2
-}
-
-// Place p has this key and note, and no octets.
-fn set_place(words: &mut [u64], p: usize, key: &[u64], note: u64)
-    requires { ⌜ (p < 128) × (1576 ≤ length (now words)) × (length (now key) ≡ 6) ⌝ }
-    ensures { λ _. ⌜ now (words .exit) ≡ put (now (words .entry)) (40 + 12 * p) (placeWords (now (key .entry)) note) ⌝ }
-{
-    let at = 40 + 12 * p;
-    let mut k: usize = 0;
-    while k < 6 {
-        words[at + k] = key[k];
-        k += 1;
-    }
-    words[at + 6] = note;
-    words[at + 7] = 0;
-    words[at + 8] = 0;
-    words[at + 9] = 0;
-    words[at + 10] = 0;
 }
 
 // A unit with this key, note and time, and no octets, is the last of link l.
@@ -167,7 +147,6 @@ pub fn add(
     ensures { λ _. ⌜ units (now (words .exit)) l ≡ units (now (words .entry)) l + 1 ⌝ }
 {
     let u = words[24 + l] as usize;
-    set_place(words, 8 * l + u, key, note);
+    set_place(words, times, 8 * l + u, empty_place(key, note, at));
     words[24 + l] = (u + 1) as u64;
-    times[8 * l + u] = at;
 }

@@ -1,9 +1,10 @@
 // The soundness test.
 ghost use mathlib.Core.Path.{_≡_};
 ghost use Rattle.pool.specs.View.{sound};
+ghost use Rattle.pool.specs.Kinds.{soundOf, anyUnit};
 
-// Whether a store is sound, whatever is lent, but for the kind's own test of its units.
-pub fn store_ok(words: &[u64], times: &[f64], list: &[u16], home: &[u16], blocks: &[u8]) -> bool
+// Whether a store is sound, whatever is lent, but for its kind.
+fn base_ok(words: &[u64], times: &[f64], list: &[u16], home: &[u16], blocks: &[u8]) -> bool
     ensures { λ r. ⌜ r ≡ sound (now (words .entry)) (now (times .entry)) (now (list .entry)) (now (home .entry)) (now (blocks .entry)) ⌝ }
 {
     if !tables::tables_ok(words) {
@@ -22,7 +23,23 @@ pub fn store_ok(words: &[u64], times: &[f64], list: &[u16], home: &[u16], blocks
     if blocks.len() < 64 * b {
         return false;
     }
-    let n = words[1] as usize;
-    let m = tables::used(words, n);
+    let m = tables::ledger::all_used(words);
     chain::homed_ok(list, home, b, m)
+}
+
+// Whether a store is a sound one of this kind, whatever is lent, but for the kind's own test of its units.
+pub fn store_ok(
+    words: &[u64],
+    times: &[f64],
+    list: &[u16],
+    home: &[u16],
+    blocks: &[u8],
+    kind: u64,
+) -> bool
+    ensures { λ r. ⌜ r ≡ soundOf kind anyUnit (now (words .entry)) (now (times .entry)) (now (list .entry)) (now (home .entry)) (now (blocks .entry)) ⌝ }
+{
+    if !base_ok(words, times, list, home, blocks) {
+        return false;
+    }
+    words[0] == kind
 }

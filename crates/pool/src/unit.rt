@@ -7,6 +7,11 @@ ghost use Rattle.octets.specs.Emit.{put};
 ghost use Rattle.model.specs.Cost.{blocks as blocksFor};
 ghost use Rattle.tables.specs.Tables.{links, units, word, count, placeCost, tablesOk};
 ghost use Rattle.pool.specs.View.{sound, pend, startOf, partAt, Room, SameSettings, spliced, written, spliceWords, removed, lessWords, lessTimes, marked, unitOf, partOf};
+use crate::place::place_at;
+use crate::place::set_place;
+use tables::ledger::ledger_of;
+use tables::ledger::recounted;
+use tables::ledger::set_ledger;
 
 // The block from which on place j of link l stands.
 pub fn start_of(words: &[u64], l: usize, j: usize) -> usize
@@ -37,7 +42,7 @@ fn set_part(words: &mut [u64], l: usize, j: usize, part: usize, x: u64, n: u64)
     let c = words[8 + l];
     words[at + (7 + part)] = x;
     words[at + (9 + part)] = n;
-    words[8 + l] = c + n - k;
+    set_ledger(words, recounted(ledger_of(words), l, c + n - k));
 }
 
 // A part of unit j of link l from its octet d on becomes src.
@@ -61,8 +66,7 @@ pub fn splice(
     ensures { λ _. ⌜ SameSettings (now (words .entry)) (now (words .exit)) ⌝ }
 {
     let b = words[2] as usize;
-    let links = words[1] as usize;
-    let m = tables::used(words, links);
+    let m = tables::ledger::all_used(words);
     let s = start_of(words, l, j);
     let a = part_start(words, 8 * l + j, part, s);
     let k = words[40 + 12 * (8 * l + j) + (9 + part)] as usize;
@@ -93,8 +97,7 @@ pub fn zeros(
     ensures { λ _. ⌜ SameSettings (now (words .entry)) (now (words .exit)) ⌝ }
 {
     let b = words[2] as usize;
-    let links = words[1] as usize;
-    let m = tables::used(words, links);
+    let m = tables::ledger::all_used(words);
     let s = start_of(words, l, j);
     let a = part_start(words, 8 * l + j, part, s);
     let k = words[40 + 12 * (8 * l + j) + (9 + part)] as usize;
@@ -123,8 +126,7 @@ pub fn write(
     ensures { λ _. ⌜ pend (now (words .entry)) (now (times .entry)) (now (list .entry)) (now (blocks .exit)) ≡ written (pend (now (words .entry)) (now (times .entry)) (now (list .entry)) (now (blocks .entry))) l j part o (now (src .entry)) ⌝ }
 {
     let b = words[2] as usize;
-    let links = words[1] as usize;
-    let m = tables::used(words, links);
+    let m = tables::ledger::all_used(words);
     let s = start_of(words, l, j);
     let a = part_start(words, 8 * l + j, part, s);
     chain::write_at(list, blocks, b, m, 64 * a + o, src);
@@ -140,7 +142,7 @@ fn take_place(words: &mut [u64], times: &mut [f64], l: usize, j: usize, k: u64)
     shift::down64(words, 40 + 12 * (8 * l + j), 12, 40 + 12 * (8 * l + u));
     shift::downf(times, 8 * l + j, 1, 8 * l + u);
     words[24 + l] = (u - 1) as u64;
-    words[8 + l] = c - k;
+    set_ledger(words, recounted(ledger_of(words), l, c - k));
 }
 
 // Unit j of link l is taken out.
@@ -161,8 +163,7 @@ pub fn remove(
     ensures { λ _. ⌜ units (now (words .exit)) l ≡ units (now (words .entry)) l - 1 ⌝ }
 {
     let b = words[2] as usize;
-    let links = words[1] as usize;
-    let m = tables::used(words, links);
+    let m = tables::ledger::all_used(words);
     let s = start_of(words, l, j);
     let k = tables::place_cost(words, 8 * l + j);
     chain::release(list, home, b, m, s, s + k as usize);
@@ -187,8 +188,10 @@ pub fn mark(
     ensures { λ _. ⌜ pend (now (words .exit)) (now (times .exit)) (now (list .entry)) (now (blocks .entry)) ≡ marked (pend (now (words .entry)) (now (times .entry)) (now (list .entry)) (now (blocks .entry))) l j note at ⌝ }
     ensures { λ _. ⌜ SameSettings (now (words .entry)) (now (words .exit)) ⌝ }
 {
-    words[40 + 12 * (8 * l + j) + 6] = note;
-    times[8 * l + j] = at;
+    let mut q = place_at(words, times, 8 * l + j);
+    q.note = note;
+    q.time = at;
+    set_place(words, times, 8 * l + j, q);
 }
 
 // A part of unit j of link l is written into out from index at on; its length.
@@ -210,8 +213,7 @@ pub fn read(
     ensures { λ _. ⌜ now (out .exit) ≡ put (now (out .entry)) at (partOf part (unitOf (pend (now (words .entry)) (now (times .entry)) (now (list .entry)) (now (blocks .entry))) l j)) ⌝ }
 {
     let b = words[2] as usize;
-    let links = words[1] as usize;
-    let m = tables::used(words, links);
+    let m = tables::ledger::all_used(words);
     let s = start_of(words, l, j);
     let a = part_start(words, 8 * l + j, part, s);
     let d = words[40 + 12 * (8 * l + j) + (7 + part)] as usize;

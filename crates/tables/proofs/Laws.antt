@@ -1,16 +1,16 @@
 -- What the tests say, and laws of sums.
-use Prim.Native.Nat.{ℕ, zero, suc, _+_, _*_, _-_, _/_, _≤_, _<_}
+use Prim.Native.Nat.{ℕ, zero, suc, _+_, _*_, _-_, _≤_, _<_}
 use mathlib.Core.Path.{_≡_, refl, sym, ap, _∙_}
-use mathlib.Core.Bool.{Bool, true, false, cond, not, _&&_}
+use mathlib.Core.Bool.{Bool, true, false, cond, _&&_}
 use mathlib.Core.List.{List}
 use native.Mathlib.Numerals.{add-one}
 use native.Mathlib.Nat.{mul-le-mul-left, suc-mul}
 use native.Mathlib.Omega.{arith}
 use lib.Dec.{ltb, leb, eqb}
-use lib.ListN.{length, getD}
+use lib.ListN.{length}
 use borrow.Author.Tests.{leb-true, le-leb, lt-leb, ltb-true, ltb-false, lt-ltb, le-ltb, eqb-true, eq-eqb, ne-eqb}
 use Rattle.octets.specs.Tests.{all}
-use Rattle.octets.proofs.Tests.{all-at, and-left, and-right, and-false}
+use Rattle.octets.proofs.Tests.{all-at, all-of, all-fails, and-left, and-right, and-false}
 use Rattle.model.specs.Cost.{blocks}
 use Rattle.tables.specs.Tables.{links, blocksIn, reserve, cap, count, units, word, sum, placeOk, placesOk, costs, keysOk, allowed, settingsOk, linkOk, idle, linkAt, usedOf, excessOf, tablesOk}
 
@@ -129,37 +129,72 @@ product n r h k = let z : n * r ≤ n * 1024 = mul-le-mul-left n k in omega arit
 
 -- ---- each way that a link fails
 module _ (w : List ℕ) (l : ℕ) where
-  pub idle-units : links w ≤ l → (units w l ≡ 0 → ⊥) → linkAt w l ≡ false
-  unfolding idle
-  idle-units h e = idle-is w l h ∙ rw (ne-eqb (units w l) 0 e)
+  pub many : 8 < units w l → linkOk w l ≡ false
+  unfolding linkOk
+  many e = rw (lt-leb (units w l) 8 e)
 
-  pub idle-count : links w ≤ l → units w l ≡ 0 → linkAt w l ≡ eqb (count w l) 0
-  unfolding idle
-  idle-count h e = idle-is w l h ∙ rw (eq-eqb (units w l) 0 e)
-
-  module _ (h : l < links w) where
-    pub many : 8 < units w l → linkAt w l ≡ false
+  module _ (few : units w l ≤ 8) where
+    pub past-cap : cap w < count w l → linkOk w l ≡ false
     unfolding linkOk
-    many e = link-is w l h ∙ rw (lt-leb (units w l) 8 e)
+    past-cap e = rw (le-leb (units w l) 8 few, lt-leb (count w l) (cap w) e) (go (placesOk w (8 * l) (units w l)) (eqb (count w l) (costs w (8 * l) (units w l))))
+      where
+        go : (s t : Bool) → (s && (t && false)) ≡ false
+        go true true = refl
+        go true false = refl
+        go false t = refl
 
-    module _ (few : units w l ≤ 8) where
-      pub wrong : placesOk w (8 * l) (units w l) ≡ false → linkAt w l ≡ false
+    pub disagrees : (count w l ≡ cond (placesOk w (8 * l) (units w l)) (costs w (8 * l) (units w l)) 18446744073709551615 → ⊥) → linkOk w l ≡ false
+    unfolding linkOk
+    disagrees e = rw (le-leb (units w l) 8 few) (go (placesOk w (8 * l) (units w l)) e)
+      where
+        go : (s : Bool) → (count w l ≡ cond s (costs w (8 * l) (units w l)) 18446744073709551615 → ⊥) → (s && (eqb (count w l) (costs w (8 * l) (units w l)) && (leb (count w l) (cap w) && keysOk w (8 * l) (units w l)))) ≡ false
+        go true n = rw (ne-eqb (count w l) (costs w (8 * l) (units w l)) n)
+        go false n = refl
+
+    module _ (within : count w l ≤ cap w) (low : cap w ≤ 1024) where
+      pub last : count w l ≡ cond (placesOk w (8 * l) (units w l)) (costs w (8 * l) (units w l)) 18446744073709551615 → linkOk w l ≡ keysOk w (8 * l) (units w l)
       unfolding linkOk
-      wrong e = link-is w l h ∙ rw (le-leb (units w l) 8 few, e)
+      last e = rw (le-leb (units w l) 8 few, le-leb (count w l) (cap w) within) (go (placesOk w (8 * l) (units w l)) e)
+        where
+          go : (s : Bool) → count w l ≡ cond s (costs w (8 * l) (units w l)) 18446744073709551615 → (s && (eqb (count w l) (costs w (8 * l) (units w l)) && keysOk w (8 * l) (units w l))) ≡ keysOk w (8 * l) (units w l)
+          go true n = rw (eq-eqb (count w l) (costs w (8 * l) (units w l)) n)
+          go false n = absurd (omega (arith, n))
 
-      module _ (right : placesOk w (8 * l) (units w l) ≡ true) where
-        pub disagrees : (count w l ≡ costs w (8 * l) (units w l) → ⊥) → linkAt w l ≡ false
-        unfolding linkOk
-        disagrees e = link-is w l h ∙ rw (le-leb (units w l) 8 few, right, ne-eqb (count w l) (costs w (8 * l) (units w l)) e)
+-- ---- where there is no link
+module _ (w : List ℕ) (l : ℕ) where
+  pub idle-units : (units w l ≡ 0 → ⊥) → idle w l ≡ false
+  unfolding idle
+  idle-units e = rw (ne-eqb (units w l) 0 e)
 
-        module _ (agrees : count w l ≡ costs w (8 * l) (units w l)) where
-          pub over : cap w < count w l → linkAt w l ≡ false
-          unfolding linkOk
-          over e = link-is w l h ∙ rw (le-leb (units w l) 8 few, right, eq-eqb (count w l) (costs w (8 * l) (units w l)) agrees, lt-leb (count w l) (cap w) e)
+  pub idle-count : (count w l ≡ 0 → ⊥) → idle w l ≡ false
+  unfolding idle
+  idle-count e = rw (ne-eqb (count w l) 0 e) (and-false (eqb (units w l) 0))
 
-          pub last : count w l ≤ cap w → linkAt w l ≡ keysOk w (8 * l) (units w l)
-          unfolding linkOk
-          last e = link-is w l h ∙ rw (le-leb (units w l) 8 few, right, eq-eqb (count w l) (costs w (8 * l) (units w l)) agrees, le-leb (count w l) (cap w) e)
+  pub idle-of : units w l ≡ 0 → count w l ≡ 0 → idle w l ≡ true
+  unfolding idle
+  idle-of e f = rw (eq-eqb (units w l) 0 e, eq-eqb (count w l) 0 f)
+
+-- all sixteen: the links, and nothing past them
+pub links-fail : (w : List ℕ) (l : ℕ) → links w ≤ 16 → l < links w → linkOk w l ≡ false → all (linkAt w) 16 ≡ false
+links-fail w l few h e = all-fails (linkAt w) l 16 (omega arith) (link-is w l h ∙ e)
+
+both : (x y : Bool) → (x ≡ true → y ≡ true) → (y ≡ true → x ≡ true) → x ≡ y
+both true y f g = sym (f refl)
+both false true f g = g refl
+both false false f g = refl
+
+pub links-hold : (w : List ℕ) → links w ≤ 16 → all (linkOk w) (links w) ≡ true → all (linkAt w) 16 ≡ all (λ i. idle w (links w + i)) (16 - links w)
+links-hold w few a =
+    both (all (linkAt w) 16) (all (λ i. idle w (links w + i)) (16 - links w))
+    (λ e. all-of (λ i. idle w (links w + i)) (16 - links w) (λ i h. sym (idle-is w (links w + i) (omega arith)) ∙ all-at (linkAt w) (links w + i) 16 e (omega arith)))
+    (λ e. all-of (linkAt w) 16 (λ l h. each e l h (ltb l (links w)) refl))
+  where
+    each : all (λ i. idle w (links w + i)) (16 - links w) ≡ true → (l : ℕ) → l < 16 → (t : Bool) → ltb l (links w) ≡ t → linkAt w l ≡ true
+    each e l h true f = link-is w l (ltb-true l (links w) f) ∙ all-at (linkOk w) l (links w) a (ltb-true l (links w) f)
+    each e l h false f =
+        let k : links w ≤ l = omega (arith, ltb-false l (links w) f) in
+        let z : l ≡ links w + (l - links w) = omega arith in
+        idle-is w l k ∙ ap (idle w) z ∙ all-at (λ i. idle w (links w + i)) (l - links w) (16 - links w) e (omega arith)
 
 -- ---- and the tables
 module _ (w : List ℕ) where

@@ -8,7 +8,7 @@ use mathlib.Core.List.{List}
 use lib.Dec.{ltb, leb, eqb}
 use lib.ListN.{length, getD, take, drop}
 use Rattle.octets.specs.Tests.{all}
-use Rattle.model.specs.Cost.{blocks}
+use Rattle.model.specs.Cost.{blocks, unitCost}
 
 abbrev pub links : List ℕ → ℕ
 links w = getD w 1 0
@@ -46,7 +46,7 @@ abbrev pub placesOk : List ℕ → ℕ → ℕ → Bool
 placesOk w p u = all (λ j. placeOk w (p + j)) u
 
 abbrev pub placeCost : List ℕ → ℕ → ℕ
-placeCost w p = word w p 9 + word w p 10
+placeCost w p = unitCost (word w p 9) (word w p 10)
 
 -- the blocks of u places from p on
 abbrev pub costs : List ℕ → ℕ → ℕ → ℕ
@@ -89,6 +89,17 @@ usedOf w n = sum (count w) n
 -- what the first n links use above the reserve
 abbrev pub excessOf : List ℕ → ℕ → ℕ
 excessOf w n = sum (λ l. count w l - reserve w) n
+
+-- the counts of all sixteen links
+abbrev pub counts : List ℕ → List ℕ
+counts w = take 16 (drop 8 w)
+
+-- all blocks, and what is above the reserve, by a ledger's counts
+abbrev pub total : List ℕ → ℕ
+total g = sum (λ l. getD g l 0) 16
+
+abbrev pub over : ℕ → List ℕ → ℕ
+over r g = sum (λ l. getD g l 0 - r) 16
 
 unfoldable pub tablesOk : List ℕ → Bool
 tablesOk w = leb 1576 (length w) && (settingsOk w && (all (linkAt w) 16 && leb (excessOf w (links w)) (blocksIn w - links w * reserve w)))

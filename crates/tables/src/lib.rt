@@ -1,11 +1,15 @@
 // The tables of a store, and the test of them.
 ghost use mathlib.Core.Path.{_≡_};
-ghost use mathlib.Core.Bool.{true};
+ghost use mathlib.Core.Bool.{true, cond};
 ghost use Prim.Native.Nat.{_+_, _*_, _-_, _≤_, _<_};
 ghost use lib.ListN.{length};
-ghost use Rattle.tables.specs.Tables.{links, count, word, placeOk, placesOk, placeCost, costs, keyEq, keyNew, keysOk, allowed, settingsOk, linkAt, usedOf, excessOf, tablesOk};
+ghost use Rattle.tables.specs.Tables.{cap, placeOk, placesOk, placeCost, costs, keyEq, keyNew, keysOk, allowed, settingsOk, linkOk, idle, linkAt, usedOf, tablesOk};
 ghost use Rattle.octets.specs.Tests.{all};
+use crate::ledger::ledger_of;
+use crate::ledger::over_of;
 use model::blocks_of;
+
+pub mod ledger;
 
 // Whether settings are allowed: links n, blocks b, reserve r, cap c.
 pub fn settings_allowed(n: u64, b: u64, r: u64, c: u64) -> bool
@@ -96,21 +100,6 @@ fn place_ok(words: &[u64], p: usize) -> bool
     words[at + 10] == blocks_of(words[at + 8])
 }
 
-// The same of u places from p on.
-fn places_ok(words: &[u64], p: usize, u: usize) -> bool
-    requires { ⌜ (p + u ≤ 128) × (1576 ≤ length (now words)) ⌝ }
-    ensures { λ r. ⌜ r ≡ placesOk (now (words .entry)) p u ⌝ }
-{
-    let mut j: usize = 0;
-    while j < u {
-        if !place_ok(words, p + j) {
-            return false;
-        }
-        j += 1;
-    }
-    true
-}
-
 // The blocks of place p.
 pub fn place_cost(words: &[u64], p: usize) -> u64
     requires { ⌜ (p < 128) × (1576 ≤ length (now words)) × (placeOk (now words) p ≡ true) ⌝ }
@@ -133,48 +122,74 @@ pub fn cost(words: &[u64], p: usize, u: usize) -> u64
     sum
 }
 
-// Whether link l is sound, or idle where there is no such link.
-fn link_ok(words: &[u64], l: usize) -> bool
-    requires { ⌜ (l < 16) × (1576 ≤ length (now words)) ⌝ }
-    ensures { λ r. ⌜ r ≡ linkAt (now (words .entry)) l ⌝ }
+// The blocks of u places from p on, or a number that no link's count is where a place's block counts are not right.
+fn checked_cost(words: &[u64], p: usize, u: usize) -> u64
+    requires { ⌜ (p + u ≤ 128) × (u ≤ 8) × (1576 ≤ length (now words)) ⌝ }
+    ensures { λ r. ⌜ r ≡ cond (placesOk (now (words .entry)) p u) (costs (now (words .entry)) p u) 18446744073709551615 ⌝ }
 {
-    let n = words[1];
+    let mut blocks: u64 = 0;
+    let mut j: usize = 0;
+    while j < u {
+        if !place_ok(words, p + j) {
+            return 18446744073709551615;
+        }
+        blocks += place_cost(words, p + j);
+        j += 1;
+    }
+    blocks
+}
+
+// Whether link l is sound. The count is within the cap before it is compared, so that it is no failure's number.
+fn link_ok(words: &[u64], l: usize) -> bool
+    requires { ⌜ (l < 16) × (cap (now words) ≤ 1024) × (1576 ≤ length (now words)) ⌝ }
+    ensures { λ r. ⌜ r ≡ linkOk (now (words .entry)) l ⌝ }
+{
     let u = words[24 + l];
     let k = words[8 + l];
-    if n <= l as u64 {
-        if u != 0 {
-            return false;
-        }
-        return k == 0;
-    }
     if 8 < u {
-        return false;
-    }
-    let v = u as usize;
-    if !places_ok(words, 8 * l, v) {
-        return false;
-    }
-    if k != cost(words, 8 * l, v) {
         return false;
     }
     if words[4] < k {
         return false;
     }
+    let v = u as usize;
+    if k != checked_cost(words, 8 * l, v) {
+        return false;
+    }
     keys_ok(words, 8 * l, v)
 }
 
-fn links_ok(words: &[u64]) -> bool
-    requires { ⌜ 1576 ≤ length (now words) ⌝ }
-    ensures { λ r. ⌜ r ≡ all (linkAt (now (words .entry))) 16 ⌝ }
+// Whether there is nothing where there are no links, from n on.
+fn past_ok(words: &[u64], n: usize) -> bool
+    requires { ⌜ (n ≤ 16) × (1576 ≤ length (now words)) ⌝ }
+    ensures { λ r. ⌜ r ≡ all (λ i. idle (now (words .entry)) (n + i)) (16 - n) ⌝ }
 {
-    let mut l: usize = 0;
+    let mut l = n;
     while l < 16 {
-        if !link_ok(words, l) {
+        if words[24 + l] != 0 {
+            return false;
+        }
+        if words[8 + l] != 0 {
             return false;
         }
         l += 1;
     }
     true
+}
+
+fn links_ok(words: &[u64]) -> bool
+    requires { ⌜ (1576 ≤ length (now words)) × (settingsOk (now words) ≡ true) ⌝ }
+    ensures { λ r. ⌜ r ≡ all (linkAt (now (words .entry))) 16 ⌝ }
+{
+    let n = words[1] as usize;
+    let mut l: usize = 0;
+    while l < n {
+        if !link_ok(words, l) {
+            return false;
+        }
+        l += 1;
+    }
+    past_ok(words, n)
 }
 
 // The blocks of the first n links, by the counts.
@@ -186,24 +201,6 @@ pub fn used(words: &[u64], n: usize) -> usize
     let mut l: usize = 0;
     while l < n {
         sum += words[8 + l] as usize;
-        l += 1;
-    }
-    sum
-}
-
-// What the first n links use above their reserve.
-pub fn excess(words: &[u64], n: usize) -> u64
-    requires { ⌜ (n ≤ 16) × (1576 ≤ length (now words)) × (settingsOk (now words) ≡ true) × (all (linkAt (now words)) 16 ≡ true) ⌝ }
-    ensures { λ r. ⌜ r ≡ excessOf (now (words .entry)) n ⌝ }
-{
-    let r = words[3];
-    let mut sum: u64 = 0;
-    let mut l: usize = 0;
-    while l < n {
-        let k = words[8 + l];
-        if r < k {
-            sum += k - r;
-        }
         l += 1;
     }
     sum
@@ -223,6 +220,6 @@ pub fn tables_ok(words: &[u64]) -> bool
     }
     let n = words[1];
     let r = words[3];
-    let e = excess(words, n as usize);
+    let e = over_of(ledger_of(words), r);
     e <= words[2] - n * r
 }

@@ -1,19 +1,17 @@
 use borrow.Author.Needs.{needs}
-use Prim.Native.Nat.{ℕ, _+_, _*_, _-_, _/_, _≤_, _<_}
-use mathlib.Core.Path.{_≡_, refl, sym, ap, _∙_}
-use mathlib.Core.Bool.{Bool, true, false, not}
-use mathlib.Core.Logic.{⊎-elim}
+use Prim.Native.Nat.{ℕ, _*_, _-_}
+use mathlib.Core.Path.{_≡_, sym, ap, _∙_}
+use mathlib.Core.Bool.{true}
 use mathlib.Core.List.{List}
 use native.Mathlib.Omega.{arith}
-use borrow.Author.Tests.{ne-eqb, eq-eqb, not-true, not-false, le-leb, lt-leb, lt-ltb, le-ltb}
-use lib.ListN.{length, getD}
-use lib.Dec.{leb, ltb, eqb}
+use borrow.Author.Tests.{not-true, not-false}
+use lib.Dec.{leb}
+use lib.ListN.{getD}
 use denote.Ref.{now}
 use Rattle.octets.specs.Tests.{all}
-use Rattle.octets.proofs.Tests.{all-none, all-more, all-fails, all-at, and-false}
-use Rattle.tables.specs.Tables.{links, blocksIn, reserve, cap, count, units, word, sum, placeCost, costs, wordEq, keyEq, keyNew, keysOk, settingsOk, linkOk, idle, linkAt, usedOf, excessOf, tablesOk}
-use Rattle.tables.proofs.Laws.{sum-none, sum-next, settings, link, link-of, link-is, idle-is, counts-low, product}
-use Rattle.tables.proofs.Laws.{short, no-settings, no-links, common}
+use Rattle.tables.specs.Tables.{links, blocksIn, reserve, settingsOk, linkAt, over}
+use Rattle.tables.proofs.Laws.{settings, short, no-settings, no-links, common}
+use Rattle.tables.proofs.Counts.{ledger-low, over-is}
 use Rattle.tables.proofs.tables_ok.Statement.{statement}
 use Rattle.tables.proofs.tables_ok.Tie as tie
 
@@ -27,7 +25,7 @@ returns-2 : tie.Need-returns-2
 returns-2 c = sym (no-settings (now (c .before .before .before .before .args .words)) (c .before .before .if1 .left) (sym (c .before .settings-ok .ensures) ∙ not-true _ (c .if2 .taken)))
 
 links-ok-requires : tie.Need-links-ok-requires
-links-ok-requires c κs = search needs
+links-ok-requires c κs = (c .before .before .if1 .left, sym (c .before .settings-ok .ensures) ∙ not-false _ (c .if2 .left))
 
 returns-3 : tie.Need-returns-3
 returns-3 c = sym (no-links (now (c .before .before .before .before .before .before .args .words)) (c .before .before .before .before .if1 .left) (sym (c .before .before .before .settings-ok .ensures) ∙ not-false _ (c .before .before .if2 .left)) (sym (c .before .links-ok .ensures) ∙ not-true _ (c .if3 .taken)))
@@ -38,33 +36,29 @@ shared-slice-read-n c = search needs
 shared-slice-read-r : tie.Need-shared-slice-read-r
 shared-slice-read-r c = search needs
 
-excess-requires : tie.Need-excess-requires
-excess-requires c κs =
-    let w = now (c .before .before .before .before .before .before .before .before .args .words) in
-    let s : settingsOk w ≡ true = sym (c .before .before .before .before .before .settings-ok .ensures) ∙ not-false _ (c .before .before .before .before .if2 .left) in
-    (settings w s .few-links, c .before .before .before .before .before .before .if1 .left, s, sym (c .before .before .before .links-ok .ensures) ∙ not-false _ (c .before .before .if3 .left))
+ledger-of-requires : tie.Need-ledger-of-requires
+ledger-of-requires c κs = search needs
+
+over-of-requires : tie.Need-over-of-requires
+over-of-requires c κs = λ l h. omega (arith, ap (λ (g : List ℕ). getD g l 0) (c .ledger-of .ensures), ledger-low (now (c .before .before .before .before .before .before .before .before .before .args .words)) (sym (c .before .before .before .before .before .before .settings-ok .ensures) ∙ not-false _ (c .before .before .before .before .before .if2 .left)) (sym (c .before .before .before .before .links-ok .ensures) ∙ not-false _ (c .before .before .before .if3 .left)) l h)
 
 shared-slice-read-result : tie.Need-shared-slice-read-result
 shared-slice-read-result c = search needs
 
 mul-result : tie.Need-mul-result
 mul-result c =
-    let w = now (c .before .before .before .before .before .before .before .before .before .before .args .words) in
-    let q = settings w (sym (c .before .before .before .before .before .before .before .settings-ok .ensures) ∙ not-false _ (c .before .before .before .before .before .before .if2 .left)) in
+    let q = settings (now (c .before .before .before .before .before .before .before .before .before .before .before .args .words)) (sym (c .before .before .before .before .before .before .before .before .settings-ok .ensures) ∙ not-false _ (c .before .before .before .before .before .before .before .if2 .left)) in
     omega (arith, q .cover, q .few-blocks)
 
 sub-result : tie.Need-sub-result
-sub-result c =
-    let w = now (c .before .before .before .before .before .before .before .before .before .before .args .words) in
-    let q = settings w (sym (c .before .before .before .before .before .before .before .settings-ok .ensures) ∙ not-false _ (c .before .before .before .before .before .before .if2 .left)) in
-    q .cover
+sub-result c = settings (now (c .before .before .before .before .before .before .before .before .before .before .before .args .words)) (sym (c .before .before .before .before .before .before .before .before .settings-ok .ensures) ∙ not-false _ (c .before .before .before .before .before .before .before .if2 .left)) .cover
 
 returns-4 : tie.Need-returns-4
 returns-4 c =
-    let w = now (c .before .before .before .before .before .before .before .before .before .before .args .words) in
-    let s : settingsOk w ≡ true = sym (c .before .before .before .before .before .before .before .settings-ok .ensures) ∙ not-false _ (c .before .before .before .before .before .before .if2 .left) in
-    let a : all (linkAt w) 16 ≡ true = sym (c .before .before .before .before .before .links-ok .ensures) ∙ not-false _ (c .before .before .before .before .if3 .left) in
-    ap (λ (e : ℕ). leb e (blocksIn w - links w * reserve w)) (c .before .excess .ensures) ∙ sym (common w (c .before .before .before .before .before .before .before .before .if1 .left) s a)
+    let w = now (c .before .before .before .before .before .before .before .before .before .before .before .args .words) in
+    let s : settingsOk w ≡ true = sym (c .before .before .before .before .before .before .before .before .settings-ok .ensures) ∙ not-false _ (c .before .before .before .before .before .before .before .if2 .left) in
+    let a : all (linkAt w) 16 ≡ true = sym (c .before .before .before .before .before .before .links-ok .ensures) ∙ not-false _ (c .before .before .before .before .before .if3 .left) in
+    ap (λ (e : ℕ). leb e (blocksIn w - links w * reserve w)) (c .before .over-of .ensures ∙ ap (over (reserve w)) (c .before .before .ledger-of .ensures) ∙ over-is w s a) ∙ sym (common w (c .before .before .before .before .before .before .before .before .before .if1 .left) s a)
 
 pub tables-ok-spec : {M : Type 1} → statement M
 tables-ok-spec =
@@ -77,7 +71,8 @@ tables-ok-spec =
     returns-3
     shared-slice-read-n
     shared-slice-read-r
-    excess-requires
+    ledger-of-requires
+    over-of-requires
     shared-slice-read-result
     mul-result
     sub-result

@@ -68,32 +68,29 @@ loop-holds c =
     let a = c .before .before .before .before .before .before .args in
     (refl, refl, refl, refl, c .before .before .before .before .before .before .pre .0, settings-refl (now (a .words)), refl, omega arith, going-start (a .at) (pend (now (a .words)) (now (a .times)) (now (a .list)) (now (a .blocks))) (a .l))
 
-mul-fresh : tie.Need-mul-fresh Inv-loop μ-loop
-mul-fresh c = omega (arith, nr (c .before))
+mul-place-at : tie.Need-mul-place-at Inv-loop μ-loop
+mul-place-at c = omega (arith, nr (c .before .before .before), c .before .before .before .loop .inv .6)
 
-add-fresh : tie.Need-add-fresh Inv-loop μ-loop
-add-fresh c = omega (arith, nr (c .before), c .before .loop .inv .6)
+add-place-at : tie.Need-add-place-at Inv-loop μ-loop
+add-place-at c = omega (arith, nr (c .before .before .before), c .before .before .before .loop .inv .6)
 
-mul-fresh-2 : tie.Need-mul-fresh-2 Inv-loop μ-loop
-mul-fresh-2 c = omega (arith, nr (c .before), c .before .loop .inv .6)
-
-slice-read-fresh : tie.Need-slice-read-fresh Inv-loop μ-loop
-slice-read-fresh c = omega (arith, nr (c .before .before), pl (c .before .before), c .before .before .loop .inv .6)
+place-at-requires : tie.Need-place-at-requires Inv-loop μ-loop
+place-at-requires c κs = omega (arith, nr (c .before .before .before), pl (c .before .before .before), c .before .before .before .loop .inv .6)
 
 fresh-requires : tie.Need-fresh-requires Inv-loop μ-loop
 fresh-requires c κs = search needs
 
 add-j : tie.Need-add-j Inv-loop μ-loop
-add-j c = omega (arith, nr (c .before .before .before .before), c .before .before .before .before .loop .inv .6)
+add-j c = omega (arith, nr (c .before .before .before .before .before .before), c .before .before .before .before .before .before .loop .inv .6)
 
 loop-less : tie.Need-loop-less Inv-loop μ-loop
 loop-less c = omega arith
 
 loop-again : tie.Need-loop-again Inv-loop μ-loop
 loop-again c =
-    let p = c .before .before .before .before in
+    let p = c .before .before .before .before .before .before in
     let i = p .loop .inv in
-    let a = c .before .before .before .before .before .before .before .before .before .before .before .args in (
+    let a = c .before .before .before .before .before .before .before .before .before .before .before .before .before .args in (
       i .0,
       i .1,
       i .2,
@@ -103,11 +100,11 @@ loop-again c =
       i .6,
       omega arith,
       going-fresh (a .at) (pend (now (a .words)) (now (a .times)) (now (a .list)) (now (a .blocks))) (pend (p .loop .words) (p .loop .times) (p .loop .list) (now (a .blocks))) (a .l) (p .loop .j) (ln0 p) (i .8) (omega (arith, lng p))
-          (ap (freshT (a .at)) (tm p (c .before .before .before .loop-test .taken)) ∙ sym (c .before .fresh .ensures) ∙ c .if1 .taken),
+          (ap (freshT (a .at)) (tm p (c .before .before .before .before .before .loop-test .taken) ∙ sym (c .before .before .place-at .ensures .1 .1 .1 .1 .1 .1)) ∙ sym (c .before .fresh .ensures) ∙ c .if1 .taken),
     )
 
 remove-requires : tie.Need-remove-requires Inv-loop μ-loop
-remove-requires c κs = (c .before .before .before .before .before .before .before .before .loop .inv .4, (lk (c .before .before .before .before .before .before .before .before), omega (arith, c .before .before .before .before .before .before .before .before .loop .inv .6)))
+remove-requires c κs = (c .before .before .before .before .before .before .before .before .before .before .loop .inv .4, (lk (c .before .before .before .before .before .before .before .before .before .before), omega (arith, c .before .before .before .before .before .before .before .before .before .before .loop .inv .6)))
 
 sub-u : tie.Need-sub-u Inv-loop μ-loop
 sub-u c = omega arith
@@ -117,11 +114,11 @@ loop-less-2 c = omega arith
 
 loop-again-2 : tie.Need-loop-again-2 Inv-loop μ-loop
 loop-again-2 c =
-    let p = c .before .before .before .before .before .before .before .before .before .before .before .before .before .before .before .before .before in
+    let p = c .before .before .before .before .before .before .before .before .before .before .before .before .before .before .before .before .before .before .before in
     let i = p .loop .inv in
-    let a = c .before .before .before .before .before .before .before .before .before .before .before .before .before .before .before .before .before .before .before .before .before .before .before .before .args in
+    let a = c .before .before .before .before .before .before .before .before .before .before .before .before .before .before .before .before .before .before .before .before .before .before .before .before .before .before .args in
     let d = c .before .before .before .before .before .before .before .before .remove in
-    let tk : p .loop .j < p .loop .u = c .before .before .before .before .before .before .before .before .before .before .before .before .before .before .before .before .loop-test .taken in
+    let tk : p .loop .j < p .loop .u = c .before .before .before .before .before .before .before .before .before .before .before .before .before .before .before .before .before .before .loop-test .taken in
     let e : units (d .last .0) (a .l) ≡ units (p .loop .words) (a .l) - 1 = d .ensures .1 .1 .1 in
     let n : p .loop .u - 1 ≡ units (d .last .0) (a .l) = omega (arith, i .6) in (
       d .kept .0 ∙ i .0,
@@ -134,7 +131,7 @@ loop-again-2 c =
       omega arith,
       going-stale (a .at) (pend (now (a .words)) (now (a .times)) (now (a .list)) (now (a .blocks))) (pend (p .loop .words) (p .loop .times) (p .loop .list) (now (a .blocks))) (a .l) (p .loop .j) (ln0 p) (i .8)
           (pend (d .last .0) (d .last .1 .0) (d .last .1 .1 .0) (now (a .blocks))) (d .ensures .1 .0) (omega (arith, lng p))
-          (ap (freshT (a .at)) (tm p (c .before .before .before .before .before .before .before .before .before .before .before .before .before .before .before .before .loop-test .taken)) ∙ sym (c .before .before .before .before .before .before .before .before .before .before .before .before .before .before .fresh .ensures) ∙ c .before .before .before .before .before .before .before .before .before .before .before .before .before .if1 .left),
+          (ap (freshT (a .at)) (tm p (c .before .before .before .before .before .before .before .before .before .before .before .before .before .before .before .before .before .before .loop-test .taken) ∙ sym (c .before .before .before .before .before .before .before .before .before .before .before .before .before .before .before .place-at .ensures .1 .1 .1 .1 .1 .1)) ∙ sym (c .before .before .before .before .before .before .before .before .before .before .before .before .before .before .fresh .ensures) ∙ c .before .before .before .before .before .before .before .before .before .before .before .before .before .if1 .left),
     )
 
 same-length : tie.Need-same-length Inv-loop μ-loop
@@ -166,10 +163,9 @@ expire-spec =
     mul-u
     slice-read-u
     loop-holds
-    mul-fresh
-    add-fresh
-    mul-fresh-2
-    slice-read-fresh
+    mul-place-at
+    add-place-at
+    place-at-requires
     fresh-requires
     add-j
     loop-less

@@ -1,14 +1,15 @@
+use borrow.Author.Needs.{needs}
 use Prim.Native.Nat.{ℕ, _+_, _*_, _-_, _≤_, _<_}
-use mathlib.Core.Path.{_≡_, sym}
+use mathlib.Core.Path.{_≡_, sym, ap, _∙_}
 use mathlib.Core.List.{List}
 use native.Mathlib.Omega.{arith}
-use lib.ListN.{length}
+use lib.ListN.{length, getD, set}
 use denote.Ref.{now}
-use Rattle.tables.specs.Tables.{links, blocksIn, reserve, count, units, excessOf}
-use Rattle.tables.proofs.Laws.{Tables, tables, settings}
+use Rattle.tables.specs.Tables.{links, blocksIn, reserve, cap, count, units, excessOf, counts, over}
+use Rattle.tables.proofs.Laws.{tables, settings}
+use Rattle.tables.proofs.Counts.{over-after, after-low}
 use Rattle.pool.proofs.Near.{near}
 use Rattle.pool.proofs.Refused.{says-11, says-12, says-13, says-2}
-use borrow.Author.Needs.{needs}
 use Rattle.pool.proofs.link.room.Statement.{statement}
 use Rattle.pool.proofs.link.room.Tie as tie
 
@@ -21,7 +22,7 @@ record Bounds (w : List ℕ) (l u k n : ℕ) : Type 0 where
   counted : count w l ≤ 1024
   few-blocks : blocksIn w ≤ 1024
   cover : links w * reserve w ≤ blocksIn w
-  excess : excessOf w (links w) ≤ 1024
+  capped : cap w ≤ 1024
   one : u ≤ 1
   there : k ≤ count w l
   most : n ≤ 65536
@@ -39,7 +40,7 @@ bd c =
       counted = r .counted;
       few-blocks = r .few-blocks;
       cover = q .cover;
-      excess = omega (arith, t .rest, q .few-blocks);
+      capped = omega (arith, q .capped, q .few-blocks);
       one = c .pre .2;
       there = c .pre .3;
       most = c .pre .4;
@@ -81,45 +82,62 @@ shared-slice-read-if2 c = omega (arith, bd (c .before .before .before .before .b
 returns-2 : tie.Need-returns-2
 returns-2 c = sym (says-12 (now (c .before .before .before .before .before .before .args .words)) (c .before .before .before .before .before .before .args .l) (c .before .before .before .before .before .before .args .u) (c .before .before .before .before .before .before .args .k) (c .before .before .before .before .before .before .args .n) (c .before .before .before .if1 .left) (c .if2 .taken))
 
-shared-slice-read-links : tie.Need-shared-slice-read-links
-shared-slice-read-links c = omega (arith, bd (c .before .before .before .before .before .before .before))
-
 shared-slice-read-r : tie.Need-shared-slice-read-r
-shared-slice-read-r c = omega (arith, bd (c .before .before .before .before .before .before .before .before))
+shared-slice-read-r c = omega (arith, bd (c .before .before .before .before .before .before .before))
 
-excess-requires : tie.Need-excess-requires
-excess-requires c κs =
-    let k = tables (now (c .before .before .before .before .before .before .before .before .args .words)) (c .before .before .before .before .before .before .before .before .pre .0) in
-    (settings (now (c .before .before .before .before .before .before .before .before .args .words)) (k .set) .few-links, k .long, k .set, k .each)
+ledger-of-requires : tie.Need-ledger-of-requires
+ledger-of-requires c κs = bd (c .before .before .before .before .before .before .before) .long
+
+recounted-requires : tie.Need-recounted-requires
+recounted-requires c κs = bd (c .before .before .before .before .before .before .before .before) .low-link
+
+-- the ledger that the last test is on
+changed : (c : tie.After-recounted) →
+    let a = c .before .before .before .before .before .before .before .before .before .args in
+    c .recounted .result .counts ≡ set (counts (now (a .words))) (a .l) (count (now (a .words)) (a .l) + a .n - a .k)
+changed c =
+    let a = c .before .before .before .before .before .before .before .before .before .args in
+    c .recounted .ensures ∙ ap (λ (g : List ℕ). set g (a .l) (count (now (a .words)) (a .l) + a .n - a .k)) (c .before .ledger-of .ensures)
+
+judged : (c : tie.After-over-of) →
+    let a = c .before .before .before .before .before .before .before .before .before .before .args in
+    let w = now (a .words) in
+    c .over-of .result + (count w (a .l) - reserve w) ≡ excessOf w (links w) + (count w (a .l) + a .n - a .k - reserve w)
+judged c =
+    let s = c .before .before .before .before .before .before .before .before .before .before in
+    let w = now (s .args .words) in
+    let t = tables w (s .pre .0) in
+    ap (λ (y : ℕ). y + (count w (s .args .l) - reserve w)) (c .over-of .ensures ∙ ap (over (reserve w)) (changed (c .before)))
+    ∙ over-after w (t .set) (t .each) (s .args .l) (count w (s .args .l) + s .args .n - s .args .k) (bd s .low-link) (omega (arith, t .long))
+
+over-of-requires : tie.Need-over-of-requires
+over-of-requires c κs =
+    let w = now (c .before .before .before .before .before .before .before .before .before .args .words) in
+    let t = tables w (c .before .before .before .before .before .before .before .before .before .pre .0) in
+    let b = bd (c .before .before .before .before .before .before .before .before .before) in
+    λ i h. omega (arith, ap (λ (g : List ℕ). getD g i 0) (changed (c)), after-low w (t .set) (t .each) (c .before .before .before .before .before .before .before .before .before .args .l) (count w (c .before .before .before .before .before .before .before .before .before .args .l) + c .before .before .before .before .before .before .before .before .before .args .n - c .before .before .before .before .before .before .before .before .before .args .k) (b .low-link) (omega (arith, b .long)) (omega (arith, c .before .before .before .if2 .left, b .capped)) i h)
 
 shared-slice-read-if3 : tie.Need-shared-slice-read-if3
-shared-slice-read-if3 c = omega (arith, bd (c .before .before .before .before .before .before .before .before .before .before), c .before .excess .ensures)
+shared-slice-read-if3 c = omega (arith, bd (c .before .before .before .before .before .before .before .before .before .before .before))
+
+shared-slice-read-if3-2 : tie.Need-shared-slice-read-if3-2
+shared-slice-read-if3-2 c = omega (arith, bd (c .before .before .before .before .before .before .before .before .before .before .before .before))
 
 mul-if3 : tie.Need-mul-if3
-mul-if3 c = omega (arith, bd (c .before .before .before .before .before .before .before .before .before .before), c .before .excess .ensures)
+mul-if3 c = omega (arith, bd (c .before .before .before .before .before .before .before .before .before .before .before .before))
 
 sub-if3 : tie.Need-sub-if3
-sub-if3 c = omega (arith, bd (c .before .before .before .before .before .before .before .before .before .before), c .before .excess .ensures)
-
-above-requires : tie.Need-above-requires
-above-requires c κs = search needs
-
-add-if3 : tie.Need-add-if3
-add-if3 c = omega (arith, bd (c .before .before .before .before .before .before .before .before .before .before .before), c .above .ensures, c .before .before .excess .ensures)
-
-above-requires-2 : tie.Need-above-requires-2
-above-requires-2 c κs = search needs
-
-add-if3-2 : tie.Need-add-if3-2
-add-if3-2 c = omega (arith, bd (c .before .before .before .before .before .before .before .before .before .before .before .before), c .before .above .ensures, c .above2 .ensures, c .before .before .before .excess .ensures)
+sub-if3 c = omega (arith, bd (c .before .before .before .before .before .before .before .before .before .before .before .before))
 
 returns-3 : tie.Need-returns-3
 returns-3 c =
-    sym (says-13 (now (c .before .before .before .before .before .before .before .before .before .before .before .before .before .args .words)) (c .before .before .before .before .before .before .before .before .before .before .before .before .before .args .l) (c .before .before .before .before .before .before .before .before .before .before .before .before .before .args .u) (c .before .before .before .before .before .before .before .before .before .before .before .before .before .args .k) (c .before .before .before .before .before .before .before .before .before .before .before .before .before .args .n) (c .before .before .before .before .before .before .before .before .before .before .if1 .left) (c .before .before .before .before .before .before .before .if2 .left) (omega (arith, c .if3 .taken, c .before .above2 .ensures, c .before .before .above .ensures, c .before .before .before .before .excess .ensures)))
+    let a = c .before .before .before .before .before .before .before .before .before .before .before .before .before .args in
+    sym (says-13 (now (a .words)) (a .l) (a .u) (a .k) (a .n) (c .before .before .before .before .before .before .before .before .before .before .if1 .left) (c .before .before .before .before .before .before .before .if2 .left) (omega (arith, c .if3 .taken, judged (c .before .before .before))))
 
 returns-4 : tie.Need-returns-4
 returns-4 c =
-    sym (says-2 (now (c .before .before .before .before .before .before .before .before .before .before .before .before .before .args .words)) (c .before .before .before .before .before .before .before .before .before .before .before .before .before .args .l) (c .before .before .before .before .before .before .before .before .before .before .before .before .before .args .u) (c .before .before .before .before .before .before .before .before .before .before .before .before .before .args .k) (c .before .before .before .before .before .before .before .before .before .before .before .before .before .args .n) (c .before .before .before .before .before .before .before .before .before .before .if1 .left) (c .before .before .before .before .before .before .before .if2 .left) (omega (arith, c .if3 .left, c .before .above2 .ensures, c .before .before .above .ensures, c .before .before .before .before .excess .ensures)))
+    let a = c .before .before .before .before .before .before .before .before .before .before .before .before .before .args in
+    sym (says-2 (now (a .words)) (a .l) (a .u) (a .k) (a .n) (c .before .before .before .before .before .before .before .before .before .before .if1 .left) (c .before .before .before .before .before .before .before .if2 .left) (omega (arith, c .if3 .left, judged (c .before .before .before))))
 
 pub room-spec : {M : Type 1} → statement M
 room-spec =
@@ -137,15 +155,13 @@ room-spec =
     sub-after
     shared-slice-read-if2
     returns-2
-    shared-slice-read-links
     shared-slice-read-r
-    excess-requires
+    ledger-of-requires
+    recounted-requires
+    over-of-requires
     shared-slice-read-if3
+    shared-slice-read-if3-2
     mul-if3
     sub-if3
-    above-requires
-    add-if3
-    above-requires-2
-    add-if3-2
     returns-3
     returns-4)

@@ -27,67 +27,64 @@ rd c = ready (now (c .args .words)) (c .args .l) (c .args .j) (c .args .part) (g
 shared-slice-read-b : tie.Need-shared-slice-read-b
 shared-slice-read-b c = omega (arith, rd (c .before .before .before .before .before .before .before))
 
-shared-slice-read-links : tie.Need-shared-slice-read-links
-shared-slice-read-links c = omega (arith, rd (c .before .before .before .before .before .before .before .before))
-
-used-requires : tie.Need-used-requires
-used-requires c κs =
-    let t = gd (c .before .before .before .before .before .before .before .before) .tab in
-    (omega (arith, rd (c .before .before .before .before .before .before .before .before)), t .long, t .set, t .each)
+all-used-requires : tie.Need-all-used-requires
+all-used-requires c κs =
+    let t = gd (c .before .before .before .before .before .before .before) .tab in
+    (t .long, t .set, t .each)
 
 start-of-requires : tie.Need-start-of-requires
-start-of-requires c κs = (tables-of (now (c .before .before .before .before .before .before .before .before .before .args .words)) (gd (c .before .before .before .before .before .before .before .before .before) .tab), c .before .before .before .before .before .before .before .before .before .pre .1 .0, omega (arith, c .before .before .before .before .before .before .before .before .before .pre .1))
+start-of-requires c κs = (tables-of (now (c .before .before .before .before .before .before .before .before .args .words)) (gd (c .before .before .before .before .before .before .before .before) .tab), c .before .before .before .before .before .before .before .before .pre .1 .0, omega (arith, c .before .before .before .before .before .before .before .before .pre .1))
 
 mul-part-start : tie.Need-mul-part-start
-mul-part-start c = omega (arith, rd (c .before .before .before .before .before .before .before .before .before .before))
+mul-part-start c = omega (arith, rd (c .before .before .before .before .before .before .before .before .before))
 
 add-part-start : tie.Need-add-part-start
-add-part-start c = omega (arith, rd (c .before .before .before .before .before .before .before .before .before .before))
+add-part-start c = omega (arith, rd (c .before .before .before .before .before .before .before .before .before))
 
 part-start-requires : tie.Need-part-start-requires
 part-start-requires c κs =
-    let r = rd (c .before .before .before .before .before .before .before .before .before .before) in
+    let r = rd (c .before .before .before .before .before .before .before .before .before) in
     (omega (arith, r), r .close .long, c .start-of .ensures .1, r .top-at)
 
 mul-d : tie.Need-mul-d
-mul-d c = omega (arith, rd (c .before .before .before .before .before .before .before .before .before .before .before))
+mul-d c = omega (arith, rd (c .before .before .before .before .before .before .before .before .before .before))
 
 add-d : tie.Need-add-d
-add-d c = omega (arith, rd (c .before .before .before .before .before .before .before .before .before .before .before))
+add-d c = omega (arith, rd (c .before .before .before .before .before .before .before .before .before .before))
 
 mul-d-2 : tie.Need-mul-d-2
-mul-d-2 c = omega (arith, rd (c .before .before .before .before .before .before .before .before .before .before .before))
+mul-d-2 c = omega (arith, rd (c .before .before .before .before .before .before .before .before .before .before))
 
 add-d-2 : tie.Need-add-d-2
-add-d-2 c = omega (arith, rd (c .before .before .before .before .before .before .before .before .before .before .before))
+add-d-2 c = omega (arith, rd (c .before .before .before .before .before .before .before .before .before .before))
 
 add-d-3 : tie.Need-add-d-3
-add-d-3 c = omega (arith, rd (c .before .before .before .before .before .before .before .before .before .before .before))
+add-d-3 c = omega (arith, rd (c .before .before .before .before .before .before .before .before .before .before))
 
 add-d-4 : tie.Need-add-d-4
-add-d-4 c = omega (arith, rd (c .before .before .before .before .before .before .before .before .before .before .before))
+add-d-4 c = omega (arith, rd (c .before .before .before .before .before .before .before .before .before .before))
 
 mul-d-3 : tie.Need-mul-d-3
-mul-d-3 c = omega (arith, rd (c .before .before .before .before .before .before .before .before .before .before .before))
+mul-d-3 c = omega (arith, rd (c .before .before .before .before .before .before .before .before .before .before))
 
 shared-slice-read-d : tie.Need-shared-slice-read-d
-shared-slice-read-d c = omega (arith, rd (c .before .before .before .before .before .before .before .before .before .before .before .before))
+shared-slice-read-d c = omega (arith, rd (c .before .before .before .before .before .before .before .before .before .before .before))
 
 mul-read-at : tie.Need-mul-read-at
 mul-read-at c =
-    omega (arith, rd (c .before .before .before .before .before .before .before .before .before .before .before .before), begins (now (c .before .before .before .before .before .before .before .before .before .before .before .before .args .words)) (c .before .before .before .before .before .before .before .before .before .before .before .before .args .l) (c .before .before .before .before .before .before .before .before .before .before .before .before .args .j) (c .before .before .before .before .before .before .before .before .before .before .before .before .args .part) (c .before .before .start-of .result) (c .before .part-start .result) (c .before .before .start-of .ensures .0) (c .before .part-start .ensures))
+    omega (arith, rd (c .before .before .before .before .before .before .before .before .before .before .before), begins (now (c .before .before .before .before .before .before .before .before .before .before .before .args .words)) (c .before .before .before .before .before .before .before .before .before .before .before .args .l) (c .before .before .before .before .before .before .before .before .before .before .before .args .j) (c .before .before .before .before .before .before .before .before .before .before .before .args .part) (c .before .before .start-of .result) (c .before .part-start .result) (c .before .before .start-of .ensures .0) (c .before .part-start .ensures))
 
 read-at-requires : tie.Need-read-at-requires
 read-at-requires c κs =
-    let s = c .before .before .before .before .before .before .before .before .before .before .before .before .before in
+    let s = c .before .before .before .before .before .before .before .before .before .before .before .before in
     let a = s .args in
     let w = now (a .words) in
     let g = gd s in
     let r = rd s in
-    let u = c .before .before .before .before .used .ensures in
+    let u = c .before .before .before .before .all-used .ensures in
     let e = begins (now (s .args .words)) (s .args .l) (s .args .j) (s .args .part) (c .before .before .before .start-of .result) (c .before .before .part-start .result) (c .before .before .before .start-of .ensures .0) (c .before .before .part-start .ensures) in
     let hm : usedOf w (links w) ≤ length (now (a .list)) = omega (arith, r .close .fits, g .listed) in
-    let ch : chainOk (blocksIn w) (take (c .before .before .before .before .used .result) (now (a .list))) ≡ true = ap (λ (m : ℕ). chainOk (blocksIn w) (take m (now (a .list)))) u ∙ homed-chain (now (a .home)) (now (a .list)) (blocksIn w) (usedOf w (links w)) (g .chain) hm in
+    let ch : chainOk (blocksIn w) (take (c .before .before .before .before .all-used .result) (now (a .list))) ≡ true = ap (λ (m : ℕ). chainOk (blocksIn w) (take m (now (a .list)))) u ∙ homed-chain (now (a .home)) (now (a .list)) (blocksIn w) (usedOf w (links w)) (g .chain) hm in
     (omega (arith, r .close .fits, u), omega (arith, hm, u), ch, g .room, omega (arith, r .inside, r .filled, u, e), omega (arith, s .pre .1))
 
 same-length : tie.Need-same-length
@@ -95,16 +92,16 @@ same-length c = search needs
 
 returns : tie.Need-returns
 returns c =
-    let s = c .before .before .before .before .before .before .before .before .before .before .before .before .before .before .before .before in
+    let s = c .before .before .before .before .before .before .before .before .before .before .before .before .before .before .before in
     let a = s .args in
     let p = s .pre .1 in
     let w = now (a .words) in
     let list = now (a .list) in
     let bs = now (a .blocks) in
-    let u = c .before .before .before .before .before .before .before .used .ensures in
+    let u = c .before .before .before .before .before .before .before .all-used .ensures in
     let e = begins (now (s .args .words)) (s .args .l) (s .args .j) (s .args .part) (c .before .before .before .before .before .before .start-of .result) (c .before .before .before .before .before .part-start .result) (c .before .before .before .before .before .before .start-of .ensures .0) (c .before .before .before .before .before .part-start .ensures) in
     let d = word w (8 * a .l + a .j) (7 + a .part) in
-    let x : take d (drop (64 * c .before .before .before .before .before .part-start .result) (flat bs (take (c .before .before .before .before .before .before .before .used .result) list))) ≡ partOf (a .part) (unitOf (pend w (now (a .times)) list bs) (a .l) (a .j)) =
+    let x : take d (drop (64 * c .before .before .before .before .before .part-start .result) (flat bs (take (c .before .before .before .before .before .before .before .all-used .result) list))) ≡ partOf (a .part) (unitOf (pend w (now (a .times)) list bs) (a .l) (a .j)) =
     ap (λ (m : ℕ). take d (drop (64 * c .before .before .before .before .before .part-start .result) (flat bs (take m list)))) u
     ∙ ap (λ (o : ℕ). take d (drop (64 * o) (octets w list bs))) e
     ∙ sym (part-is w (now (a .times)) list (now (a .home)) bs (a .l) (a .j) (a .part) (gd s) (p .0) (p .1) (p .2)) in
@@ -115,8 +112,7 @@ read-spec =
     tie.close
     (tie.spec
     shared-slice-read-b
-    shared-slice-read-links
-    used-requires
+    all-used-requires
     start-of-requires
     mul-part-start
     add-part-start

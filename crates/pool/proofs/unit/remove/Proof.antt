@@ -31,28 +31,25 @@ parts list s s₀ k k₀ m m₀ a b c = rw (a, b, c)
 slice-read-b : tie.Need-slice-read-b
 slice-read-b c = omega (arith, rd (c .before .before .before .before .before .before))
 
-slice-read-links : tie.Need-slice-read-links
-slice-read-links c = omega (arith, rd (c .before .before .before .before .before .before .before))
-
-used-requires : tie.Need-used-requires
-used-requires c κs =
-    let t = gd (c .before .before .before .before .before .before .before .before) .tab in
-    (omega (arith, rd (c .before .before .before .before .before .before .before .before)), t .long, t .set, t .each)
+all-used-requires : tie.Need-all-used-requires
+all-used-requires c κs =
+    let t = gd (c .before .before .before .before .before .before .before) .tab in
+    (t .long, t .set, t .each)
 
 start-of-requires : tie.Need-start-of-requires
 start-of-requires c κs =
-    let s = c .before .before .before .before .before .before .before .before .before .before in
+    let s = c .before .before .before .before .before .before .before .before .before in
     (tables-of (now (s .args .words)) (gd s .tab), s .pre .1 .0, omega (arith, s .pre .1))
 
 mul-place-cost : tie.Need-mul-place-cost
-mul-place-cost c = omega (arith, rd (c .before .before .before .before .before .before .before .before .before .before .before .before))
+mul-place-cost c = omega (arith, rd (c .before .before .before .before .before .before .before .before .before .before .before))
 
 add-place-cost : tie.Need-add-place-cost
-add-place-cost c = omega (arith, rd (c .before .before .before .before .before .before .before .before .before .before .before .before))
+add-place-cost c = omega (arith, rd (c .before .before .before .before .before .before .before .before .before .before .before))
 
 place-cost-requires : tie.Need-place-cost-requires
 place-cost-requires c κs =
-    let r = rd (c .before .before .before .before .before .before .before .before .before .before .before .before) in
+    let r = rd (c .before .before .before .before .before .before .before .before .before .before .before) in
     (omega (arith, r), r .close .long, place-of _ _ (r .size .right))
 
 add-release : tie.Need-add-release
@@ -60,16 +57,16 @@ add-release c = search needs
 
 release-requires : tie.Need-release-requires
 release-requires c κs =
-    let s = c .before .before .before .before .before .before .before .before .before .before .before .before .before .before .before in
+    let s = c .before .before .before .before .before .before .before .before .before .before .before .before .before .before in
     let a = s .args in
     let g = gd s in
     let r = rd s in
-    let u = c .before .before .before .before .before .before .used .ensures in
+    let u = c .before .before .before .before .before .before .all-used .ensures in
     (omega arith, omega (arith, u, c .before .before .before .before .start-of .ensures .0, c .before .before .place-cost .ensures .0, r .size .before), omega (arith, u, r .close .fits), r .close .few-blocks, g .listed, g .homes, ap (homed (now (a .home)) (now (a .list)) (blocksIn (now (a .words)))) u ∙ g .chain)
 
 take-place-requires : tie.Need-take-place-requires
 take-place-requires c κs =
-    let s = c .before .before .before .before .before .before .before .before .before .before .before .before .before .before .before .before .before .before .before .before .before .before in
+    let s = c .before .before .before .before .before .before .before .before .before .before .before .before .before .before .before .before .before .before .before .before .before in
     let a = s .args in
     let r = rd s in
     let e = c .before .before .before .before .before .before .before .before .before .place-cost .ensures .0 in
@@ -89,24 +86,24 @@ same-length-4 c = search needs
 
 returns : tie.Need-returns
 returns c =
-    let s = c .before .before .before .before .before .before .before .before .before .before .before .before .before .before .before .before .before .before .before .before .before .before .before .before .before .before .before in
+    let s = c .before .before .before .before .before .before .before .before .before .before .before .before .before .before .before .before .before .before .before .before .before .before .before .before .before .before in
     let a = s .args in
     let w = now (a .words) in
     let tm = now (a .times) in
     let list = now (a .list) in
     let g = gd s in
     let p = s .pre .1 in
-    let u = c .before .before .before .before .before .before .before .before .before .before .before .before .before .before .before .before .before .before .used .ensures in
+    let u = c .before .before .before .before .before .before .before .before .before .before .before .before .before .before .before .before .before .before .all-used .ensures in
     let st = c .before .before .before .before .before .before .before .before .before .before .before .before .before .before .before .before .start-of .ensures .0 in
     let kk = c .before .before .before .before .before .before .before .before .before .before .before .before .before .before .place-cost .ensures .0 in
     let list' = c .before .before .before .before .before .before .before .before .before .before .before .release .last .0 in
     let home' = c .before .before .before .before .before .before .before .before .before .before .before .release .last .1 .0 in
     let k = placeCost w (8 * a .l + a .j) in
     let e = c .before .before .before .before .take-place .ensures in
-    let n : c .before .before .before .before .before .before .before .before .before .before .before .before .before .before .before .before .before .before .used .result - (c .before .before .before .before .before .before .before .before .before .before .before .before .before .before .before .before .start-of .result + c .before .before .before .before .before .before .before .before .before .before .before .before .before .before .place-cost .result - c .before .before .before .before .before .before .before .before .before .before .before .before .before .before .before .before .start-of .result) ≡ usedOf w (links w) - k = omega (arith, u, st, kk) in
+    let n : c .before .before .before .before .before .before .before .before .before .before .before .before .before .before .before .before .before .before .all-used .result - (c .before .before .before .before .before .before .before .before .before .before .before .before .before .before .before .before .start-of .result + c .before .before .before .before .before .before .before .before .before .before .before .before .before .before .place-cost .result - c .before .before .before .before .before .before .before .before .before .before .before .before .before .before .before .before .start-of .result) ≡ usedOf w (links w) - k = omega (arith, u, st, kk) in
     let rl : take (usedOf w (links w) - k) list' ≡ take (startOf w (a .l) (a .j)) list ++ take (usedOf w (links w) - (startOf w (a .l) (a .j) + k)) (drop (startOf w (a .l) (a .j) + k) list) =
     ap (λ (i : ℕ). take i list') (sym n) ∙ c .before .before .before .before .before .before .before .before .before .before .before .release .ensures .0
-    ∙ parts list (c .before .before .before .before .before .before .before .before .before .before .before .before .before .before .before .before .start-of .result) (startOf w (a .l) (a .j)) (c .before .before .before .before .before .before .before .before .before .before .before .before .before .before .place-cost .result) k (c .before .before .before .before .before .before .before .before .before .before .before .before .before .before .before .before .before .before .used .result) (usedOf w (links w)) st kk u in
+    ∙ parts list (c .before .before .before .before .before .before .before .before .before .before .before .before .before .before .before .before .start-of .result) (startOf w (a .l) (a .j)) (c .before .before .before .before .before .before .before .before .before .before .before .before .before .before .place-cost .result) k (c .before .before .before .before .before .before .before .before .before .before .before .before .before .before .before .before .before .before .all-used .result) (usedOf w (links w)) st kk u in
     let ch : homed home' list' (blocksIn w) (usedOf w (links w) - k) ≡ true = ap (homed home' list' (blocksIn w)) (sym n) ∙ c .before .before .before .before .before .before .before .before .before .before .before .release .ensures .1 in
     let good' = less-good w tm list (now (a .home)) (now (a .blocks)) list' home' (a .l) (a .j) g (p .0) (p .1) (c .before .before .before .before .before .before .before .before .before .before .before .release .kept .0) (c .before .before .before .before .before .before .before .before .before .before .before .release .kept .1 .0) rl ch in
     let pend' = less-pend w tm list (now (a .home)) (now (a .blocks)) list' home' (a .l) (a .j) g (p .0) (p .1) (c .before .before .before .before .before .before .before .before .before .before .before .release .kept .0) (c .before .before .before .before .before .before .before .before .before .before .before .release .kept .1 .0) rl ch in (
@@ -125,8 +122,7 @@ remove-spec =
     tie.close
     (tie.spec
     slice-read-b
-    slice-read-links
-    used-requires
+    all-used-requires
     start-of-requires
     mul-place-cost
     add-place-cost

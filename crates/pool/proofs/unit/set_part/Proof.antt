@@ -1,6 +1,8 @@
-use lib.ListN.{length-set}
-use native.Mathlib.Omega.{arith}
 use borrow.Author.Needs.{needs}
+use mathlib.Core.Path.{_∙_}
+use native.Mathlib.Omega.{arith}
+use lib.ListN.{length-set}
+use Rattle.tables.proofs.Counts.{stored}
 use Rattle.pool.proofs.unit.set_part.Statement.{statement}
 use Rattle.pool.proofs.unit.set_part.Tie as tie
 
@@ -61,26 +63,26 @@ mul-words-2 c = search needs
 slice-write-words-2 : tie.Need-slice-write-words-2
 slice-write-words-2 c = simp length-set (omega arith)
 
-add-words-5 : tie.Need-add-words-5
-add-words-5 c = search needs
+ledger-of-requires : tie.Need-ledger-of-requires
+ledger-of-requires c κs = search needs
 
-sub-words : tie.Need-sub-words
-sub-words c = search needs
+add-recounted : tie.Need-add-recounted
+add-recounted c = search needs
 
-add-words-6 : tie.Need-add-words-6
-add-words-6 c = search needs
+sub-recounted : tie.Need-sub-recounted
+sub-recounted c = search needs
 
-mul-words-3 : tie.Need-mul-words-3
-mul-words-3 c = search needs
+recounted-requires : tie.Need-recounted-requires
+recounted-requires c κs = search needs
 
-slice-write-words-3 : tie.Need-slice-write-words-3
-slice-write-words-3 c = simp length-set (omega arith)
+set-ledger-requires : tie.Need-set-ledger-requires
+set-ledger-requires c κs = search needs
 
 same-length : tie.Need-same-length
-same-length c = search needs
+same-length c = c .before .before .set-ledger .kept .0 ∙ simp length-set
 
 returns : tie.Need-returns
-returns c = search needs
+returns c = stored _ _ _ _ (c .before .before .before .before .before .before .before .before .before .before .args .l) _ (c .before .before .before .before .before .before .before .before .before .before .pre .0) (simp length-set (omega arith)) (c .before .before .before .before .ledger-of .ensures) (c .before .before .before .recounted .ensures) (c .before .before .set-ledger .ensures)
 
 pub set-part-spec : {M : Type 1} → statement M
 set-part-spec =
@@ -105,10 +107,10 @@ set-part-spec =
     add-words-4
     mul-words-2
     slice-write-words-2
-    add-words-5
-    sub-words
-    add-words-6
-    mul-words-3
-    slice-write-words-3
+    ledger-of-requires
+    add-recounted
+    sub-recounted
+    recounted-requires
+    set-ledger-requires
     same-length
     returns)

@@ -1,11 +1,12 @@
+use borrow.Author.Needs.{needs}
 use Prim.Native.Nat.{ℕ, _+_, _-_}
-use mathlib.Core.Path.{ap, ap₂, _∙_}
+use mathlib.Core.Path.{ap₂, _∙_}
 use mathlib.Core.List.{List}
 use native.Mathlib.Omega.{arith}
 use lib.ListN.{set, length-set}
 use denote.Ref.{now}
 use Rattle.tables.specs.Tables.{count, units}
-use borrow.Author.Needs.{needs}
+use Rattle.tables.proofs.Counts.{stored}
 use Rattle.pool.proofs.unit.take_place.Statement.{statement}
 use Rattle.pool.proofs.unit.take_place.Tie as tie
 
@@ -81,29 +82,32 @@ mul-words c = search needs
 slice-write-words : tie.Need-slice-write-words
 slice-write-words c = search needs
 
-sub-words-2 : tie.Need-sub-words-2
-sub-words-2 c = search needs
+ledger-of-requires : tie.Need-ledger-of-requires
+ledger-of-requires c κs = simp length-set (omega (arith, c .before .before .before .before .before .before .before .before .down64 .kept .0, c .before .before .before .before .before .before .before .before .before .before .before .before .before .before .pre))
 
-add-words-2 : tie.Need-add-words-2
-add-words-2 c = search needs
+sub-recounted : tie.Need-sub-recounted
+sub-recounted c = search needs
 
-mul-words-2 : tie.Need-mul-words-2
-mul-words-2 c = search needs
+recounted-requires : tie.Need-recounted-requires
+recounted-requires c κs = search needs
 
-slice-write-words-2 : tie.Need-slice-write-words-2
-slice-write-words-2 c = simp length-set (omega (arith, c .before .before .before .before .before .before .down64 .kept .0, c .before .before .before .before .before .before .before .before .before .before .before .before .pre))
+set-ledger-requires : tie.Need-set-ledger-requires
+set-ledger-requires c κs = simp length-set (omega (arith, c .before .before .before .before .before .before .before .before .before .before .down64 .kept .0, c .before .before .before .before .before .before .before .before .before .before .before .before .before .before .before .before .pre))
 
 same-length : tie.Need-same-length
-same-length c = search needs
+same-length c = c .before .before .set-ledger .kept .0 ∙ simp length-set (c .before .before .before .before .before .before .before .before .before .before .before .before .before .down64 .kept .0)
 
 same-length-2 : tie.Need-same-length-2
 same-length-2 c = search needs
 
 returns : tie.Need-returns
 returns c =
-    let a = c .before .before .before .before .before .before .before .before .before .before .before .before .args in
-    let w = now (a .words) in
-    (ap₂ (λ (x : List ℕ) (k : ℕ). set (set x (24 + a .l) (units w (a .l) - 1)) (8 + a .l) (count w (a .l) - k)) (c .before .before .before .before .before .before .down64 .ensures) (c .before .before .before .before .before .before .before .before .before .before .before .before .pre .5), c .before .before .downf .ensures)
+    let a = c .before .before .before .before .before .before .before .before .before .before .before .before .before .before .before .before .before .before .before .args in
+    let w = now (a .words) in (
+      stored _ _ _ _ (a .l) (count w (a .l) - a .k) (c .before .before .before .before .before .before .before .before .before .before .before .before .before .before .before .before .before .before .before .pre .0) (simp length-set (omega (arith, c .before .before .before .before .before .before .before .before .before .before .before .before .before .down64 .kept .0, c .before .before .before .before .before .before .before .before .before .before .before .before .before .before .before .before .before .before .before .pre))) (c .before .before .before .before .ledger-of .ensures) (c .before .before .before .recounted .ensures) (c .before .before .set-ledger .ensures)
+          ∙ ap₂ (λ (x : List ℕ) (k : ℕ). set (set x (24 + a .l) (units w (a .l) - 1)) (8 + a .l) (count w (a .l) - k)) (c .before .before .before .before .before .before .before .before .before .before .before .before .before .down64 .ensures) (c .before .before .before .before .before .before .before .before .before .before .before .before .before .before .before .before .before .before .before .pre .5),
+      c .before .before .before .before .before .before .before .before .before .downf .ensures,
+    )
 
 pub take-place-spec : {M : Type 1} → statement M
 take-place-spec =
@@ -133,10 +137,10 @@ take-place-spec =
     add-words
     mul-words
     slice-write-words
-    sub-words-2
-    add-words-2
-    mul-words-2
-    slice-write-words-2
+    ledger-of-requires
+    sub-recounted
+    recounted-requires
+    set-ledger-requires
     same-length
     same-length-2
     returns)

@@ -27,68 +27,65 @@ rd c = ready (now (c .args .words)) (c .args .l) (c .args .j) (c .args .part) (g
 slice-read-b : tie.Need-slice-read-b
 slice-read-b c = omega (arith, rd (c .before .before .before .before .before .before))
 
-slice-read-links : tie.Need-slice-read-links
-slice-read-links c = omega (arith, rd (c .before .before .before .before .before .before .before))
-
-used-requires : tie.Need-used-requires
-used-requires c κs =
-    let t = gd (c .before .before .before .before .before .before .before .before) .tab in
-    (omega (arith, rd (c .before .before .before .before .before .before .before .before)), t .long, t .set, t .each)
+all-used-requires : tie.Need-all-used-requires
+all-used-requires c κs =
+    let t = gd (c .before .before .before .before .before .before .before) .tab in
+    (t .long, t .set, t .each)
 
 start-of-requires : tie.Need-start-of-requires
 start-of-requires c κs =
-    let s = c .before .before .before .before .before .before .before .before .before .before in
+    let s = c .before .before .before .before .before .before .before .before .before in
     (tables-of (now (s .args .words)) (gd s .tab), s .pre .1 .0 .0, omega (arith, s .pre .1 .0))
 
 mul-part-start : tie.Need-mul-part-start
-mul-part-start c = omega (arith, rd (c .before .before .before .before .before .before .before .before .before .before .before .before))
+mul-part-start c = omega (arith, rd (c .before .before .before .before .before .before .before .before .before .before .before))
 
 add-part-start : tie.Need-add-part-start
-add-part-start c = omega (arith, rd (c .before .before .before .before .before .before .before .before .before .before .before .before))
+add-part-start c = omega (arith, rd (c .before .before .before .before .before .before .before .before .before .before .before))
 
 part-start-requires : tie.Need-part-start-requires
 part-start-requires c κs =
-    let r = rd (c .before .before .before .before .before .before .before .before .before .before .before .before) in
+    let r = rd (c .before .before .before .before .before .before .before .before .before .before .before) in
     (omega (arith, r), r .close .long, c .before .start-of .ensures .1, r .top-at)
 
 mul-k : tie.Need-mul-k
-mul-k c = omega (arith, rd (c .before .before .before .before .before .before .before .before .before .before .before .before .before))
+mul-k c = omega (arith, rd (c .before .before .before .before .before .before .before .before .before .before .before .before))
 
 add-k : tie.Need-add-k
-add-k c = omega (arith, rd (c .before .before .before .before .before .before .before .before .before .before .before .before .before))
+add-k c = omega (arith, rd (c .before .before .before .before .before .before .before .before .before .before .before .before))
 
 mul-k-2 : tie.Need-mul-k-2
-mul-k-2 c = omega (arith, rd (c .before .before .before .before .before .before .before .before .before .before .before .before .before))
+mul-k-2 c = omega (arith, rd (c .before .before .before .before .before .before .before .before .before .before .before .before))
 
 add-k-2 : tie.Need-add-k-2
-add-k-2 c = omega (arith, rd (c .before .before .before .before .before .before .before .before .before .before .before .before .before))
+add-k-2 c = omega (arith, rd (c .before .before .before .before .before .before .before .before .before .before .before .before))
 
 add-k-3 : tie.Need-add-k-3
 add-k-3 c = search needs
 
 add-k-4 : tie.Need-add-k-4
-add-k-4 c = omega (arith, rd (c .before .before .before .before .before .before .before .before .before .before .before .before .before), c .before .before .before .before .before .before .before .before .before .before .before .before .before .pre .1 .0)
+add-k-4 c = omega (arith, rd (c .before .before .before .before .before .before .before .before .before .before .before .before), c .before .before .before .before .before .before .before .before .before .before .before .before .pre .1 .0)
 
 mul-k-3 : tie.Need-mul-k-3
-mul-k-3 c = omega (arith, rd (c .before .before .before .before .before .before .before .before .before .before .before .before .before), c .before .before .before .before .before .before .before .before .before .before .before .before .before .pre .1 .0)
+mul-k-3 c = omega (arith, rd (c .before .before .before .before .before .before .before .before .before .before .before .before), c .before .before .before .before .before .before .before .before .before .before .before .before .pre .1 .0)
 
 slice-read-k : tie.Need-slice-read-k
-slice-read-k c = omega (arith, rd (c .before .before .before .before .before .before .before .before .before .before .before .before .before .before), c .before .before .before .before .before .before .before .before .before .before .before .before .before .before .pre .1 .0)
+slice-read-k c = omega (arith, rd (c .before .before .before .before .before .before .before .before .before .before .before .before .before), c .before .before .before .before .before .before .before .before .before .before .before .before .before .pre .1 .0)
 
 add-x : tie.Need-add-x
-add-x c = omega (arith, rd (c .before .before .before .before .before .before .before .before .before .before .before .before .before .before), rd (c .before .before .before .before .before .before .before .before .before .before .before .before .before .before) .size, c .before .before .before .before .before .before .before .before .before .before .before .before .before .before .pre .1 .0)
+add-x c = omega (arith, rd (c .before .before .before .before .before .before .before .before .before .before .before .before .before), rd (c .before .before .before .before .before .before .before .before .before .before .before .before .before) .size, c .before .before .before .before .before .before .before .before .before .before .before .before .before .pre .1 .0)
 
 add-n : tie.Need-add-n
-add-n c = omega (arith, rd (c .before .before .before .before .before .before .before .before .before .before .before .before .before .before), c .before .before .before .before .before .before .before .before .before .before .before .before .before .before .pre .1 .0)
+add-n c = omega (arith, rd (c .before .before .before .before .before .before .before .before .before .before .before .before .before), c .before .before .before .before .before .before .before .before .before .before .before .before .before .pre .1 .0)
 
 splice-zeros-requires : tie.Need-splice-zeros-requires
 splice-zeros-requires c κs =
-    let s = c .before .before .before .before .before .before .before .before .before .before .before .before .before .before .before .before .before in
+    let s = c .before .before .before .before .before .before .before .before .before .before .before .before .before .before .before .before in
     let a = s .args in
     let w = now (a .words) in
     let g = gd s in
     let r = rd s in
-    let u = c .before .before .before .before .before .before .before .before .used .ensures in
+    let u = c .before .before .before .before .before .before .before .before .all-used .ensures in
     let at = begins (now (s .args .words)) (s .args .l) (s .args .j) (s .args .part) (c .before .before .before .before .before .before .start-of .result) (c .before .before .before .before .part-start .result) (c .before .before .before .before .before .before .start-of .ensures .0) (c .before .before .before .before .part-start .ensures) in
     let f = room-fits w (a .l) (word w (8 * a .l + a .j) (9 + a .part)) (blocksFor (a .d + a .z)) (g .tab) (s .pre .1 .0 .0) (r .counted) (s .pre .1 .1) in (
       (omega (arith, u, at, r .inside), omega (arith, u, f), omega (arith, u, r .close .fits), r .close .few-blocks, g .listed, g .homes, ap (homed (now (a .home)) (now (a .list)) (blocksIn w)) u ∙ g .chain),
@@ -97,7 +94,7 @@ splice-zeros-requires c κs =
 
 set-part-requires : tie.Need-set-part-requires
 set-part-requires c κs =
-    let s = c .before .before .before .before .before .before .before .before .before .before .before .before .before .before .before .before .before .before .before .before .before .before .before .before .before in
+    let s = c .before .before .before .before .before .before .before .before .before .before .before .before .before .before .before .before .before .before .before .before .before .before .before .before in
     let r = rd s in
     (r .close .low-link, r .low, s .pre .1 .0 .2, r .close .long, r .counted, omega (arith, r .close .counted, r .filled, s .pre .1 .0, r .counted))
 
@@ -115,13 +112,13 @@ same-length-4 c = search needs
 
 returns : tie.Need-returns
 returns c =
-    let s = c .before .before .before .before .before .before .before .before .before .before .before .before .before .before .before .before .before .before .before .before .before .before .before .before .before .before .before .before in
+    let s = c .before .before .before .before .before .before .before .before .before .before .before .before .before .before .before .before .before .before .before .before .before .before .before .before .before .before .before in
     let a = s .args in
     let w = now (a .words) in
     let zs : List ℕ = replicate (a .z) 0 in
     let tm = now (a .times) in
     let g = gd s in
-    let u = c .before .before .before .before .before .before .before .before .before .before .before .before .before .before .before .before .before .before .before .used .ensures in
+    let u = c .before .before .before .before .before .before .before .before .before .before .before .before .before .before .before .before .before .before .before .all-used .ensures in
     let at = begins (now (s .args .words)) (s .args .l) (s .args .j) (s .args .part) (c .before .before .before .before .before .before .before .before .before .before .before .before .before .before .before .before .before .start-of .result) (c .before .before .before .before .before .before .before .before .before .before .before .before .before .before .before .part-start .result) (c .before .before .before .before .before .before .before .before .before .before .before .before .before .before .before .before .before .start-of .ensures .0) (c .before .before .before .before .before .before .before .before .before .before .before .before .before .before .before .part-start .ensures) in
     let k = word w (8 * a .l + a .j) (9 + a .part) in
     let n = blocksFor (a .d + a .z) in
@@ -155,8 +152,7 @@ zeros-spec =
     tie.close
     (tie.spec
     slice-read-b
-    slice-read-links
-    used-requires
+    all-used-requires
     start-of-requires
     mul-part-start
     add-part-start
