@@ -1,0 +1,34 @@
+-- The cases of document 01 that are marked P, in one list.
+use mathlib.Core.Path.{_≡_}
+use mathlib.Core.List.{List, [], _∷_}
+use Prim.Native.Nat.{ℕ}
+use Rattle.names.specs.Numbers.{kLcn, kKind, kMore, kCause, tRestartRequest}
+use Rattle.cells.specs.Items.{Items, none, leaf, number, flag, text, recordOf, flat}
+use Rattle.cells.specs.Answer.{numberOf}
+use Rattle.x25.specs.Packet.{x25Cells, x25Answer}
+
+-- an X.25 packet has the cells of the record with these members; the answer on one is this number, whatever room is lent
+pub data Case : Type 0 where
+  recorded : List ℕ → Items → Case
+  answered : List ℕ → ℕ → Case
+
+abbrev pub Holds : Case → Type 0
+Holds (recorded s kids) = x25Cells s ≡ flat 0 (recordOf kids)
+Holds (answered s n) = (room : ℕ) → numberOf (x25Answer s room) ≡ n
+
+abbrev pub Every : List Case → Type 0
+Every [] = Unit
+Every (c ∷ cs) = Holds c × Every cs
+
+-- restart: cause 0, no cause text
+abbrev pub restart : Case
+restart =
+    recorded (0x10 ∷ 0x00 ∷ 0xFB ∷ 0x85 ∷ [])
+    (leaf kLcn (number 0) (leaf kKind (text tRestartRequest) (leaf kMore (flag 0) (leaf kCause (number 0) none))))
+
+-- two octets, X.25: 15 from parse
+abbrev pub twoOctets : Case
+twoOctets = answered (0x10 ∷ 0x00 ∷ []) 15
+
+abbrev pub cases : List Case
+cases = restart ∷ twoOctets ∷ []

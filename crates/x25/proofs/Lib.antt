@@ -1,0 +1,12 @@
+pub mod Picks
+pub mod Facilities
+pub mod ByType
+pub mod Packets
+pub mod Members
+pub mod Cells
+pub mod Cases
+pub mod Thin
+pub mod Says
+pub mod Determined
+pub mod Numbers
+pub mod WellFormed

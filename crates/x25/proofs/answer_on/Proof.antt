@@ -1,0 +1,87 @@
+use borrow.Author.Needs.{needs}
+use Rattle.x25.proofs.answer_on.Statement.{statement}
+use Rattle.x25.proofs.answer_on.Tie as tie
+use native.Mathlib.Omega.{arith}
+use Rattle.cells.proofs.Answers.{too-long, no-front}
+use Rattle.x25.proofs.Says.{fits-read, says-unreadable, says-once, says-short, says-whole}
+
+returns : tie.Need-returns
+returns c = too-long (c .if1 .taken)
+
+returns-2 : tie.Need-returns-2
+returns-2 c =
+    let a = c .before .before .before .before .before .args in
+    says-unreadable (a .b .now) (a .x) (c .before .before .before .before .before .pre) (a .out .now) (c .before .before .if1 .left) (c .if2 .taken)
+
+mul-if3 : tie.Need-mul-if3
+mul-if3 c = search needs
+
+add-if3 : tie.Need-add-if3
+add-if3 c = search needs
+
+put-record-requires : tie.Need-put-record-requires
+put-record-requires c κs =
+    let a = c .before .before .before .before .before .before .before .args in
+    (omega (arith, c .before .before .before .before .if1 .left), fits-read (a .b .now) (a .x) (c .before .before .before .before .before .before .before .pre) .0)
+
+same-length : tie.Need-same-length
+same-length c = search needs
+
+returns-3 : tie.Need-returns-3
+returns-3 c =
+    let a = c .before .before .before .before .before .before .before .before .before .before .args in
+    says-once (a .b .now) (a .x) (c .before .before .before .before .before .before .before .before .before .before .pre) (a .out .now) (c .before .before .before .before .before .before .before .if1 .left) (c .before .before .before .before .before .if2 .left) (c .before .before .before .before .if3 .taken) (search needs) (c .before .before .put-record .ensures)
+
+slice-relend-prefix-put-record : tie.Need-slice-relend-prefix-put-record
+slice-relend-prefix-put-record c = search needs
+
+slice-aggregate-put-record : tie.Need-slice-aggregate-put-record
+slice-aggregate-put-record c = search needs
+
+put-record-requires-2 : tie.Need-put-record-requires-2
+put-record-requires-2 c κs =
+    let a = c .before .before .before .before .before .before .before .args in
+    (omega (arith, c .before .before .before .before .if1 .left), fits-read (a .b .now) (a .x) (c .before .before .before .before .before .before .before .pre) .0)
+
+same-length-2 : tie.Need-same-length-2
+same-length-2 c = search needs
+
+returns-4 : tie.Need-returns-4
+returns-4 c =
+    let a = c .before .before .before .before .before .before .before .before .before .before .before .args in
+    let z = no-front (c .before .before .before .put-record2 .last .1 .1 .0) (a .out .now) (c .before .before .before .put-record2 .kept .1 .1 .0) in
+    says-short (a .b .now) (a .x) (c .before .before .before .before .before .before .before .before .before .before .before .pre) (a .out .now) (c .before .before .before .before .before .before .before .before .if1 .left) (c .before .before .before .before .before .before .if2 .left) z (rw z at (c .if4 .taken)) (c .before .before .before .put-record2 .ensures)
+
+put-record-requires-3 : tie.Need-put-record-requires-3
+put-record-requires-3 c κs =
+    let a = c .before .before .before .before .before .before .before .before .before .before .before .before .args in
+    (omega (arith, c .before .before .before .before .before .before .before .before .before .if1 .left), fits-read (a .b .now) (a .x) (c .before .before .before .before .before .before .before .before .before .before .before .before .pre) .0)
+
+same-length-3 : tie.Need-same-length-3
+same-length-3 c = search needs
+
+returns-5 : tie.Need-returns-5
+returns-5 c =
+    let a = c .before .before .before .before .before .before .before .before .before .before .before .before .before .before .before .args in
+    let z = no-front (c .before .before .before .before .before .before .before .put-record2 .last .1 .1 .0) (a .out .now) (c .before .before .before .before .before .before .before .put-record2 .kept .1 .1 .0) in
+    says-whole (a .b .now) (a .x) (c .before .before .before .before .before .before .before .before .before .before .before .before .before .before .before .pre) (a .out .now) (c .before .before .before .before .before .before .before .before .before .before .before .before .if1 .left) (c .before .before .before .before .before .before .before .before .before .before .if2 .left) z (rw z at (c .before .before .before .before .if4 .left)) (search needs) (c .before .before .before .before .before .before .before .put-record2 .ensures) (c .before .before .put-record3 .ensures)
+
+pub answer-on-spec : {M : Type 1} → statement M
+answer-on-spec =
+    tie.close
+    (tie.spec
+    returns
+    returns-2
+    mul-if3
+    add-if3
+    put-record-requires
+    same-length
+    returns-3
+    slice-relend-prefix-put-record
+    slice-aggregate-put-record
+    put-record-requires-2
+    same-length-2
+    returns-4
+    put-record-requires-3
+    same-length-3
+    returns-5)

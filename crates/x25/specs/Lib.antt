@@ -1,0 +1,4 @@
+pub mod Facility
+pub mod Sndcf
+pub mod Packet
+pub mod Parse
