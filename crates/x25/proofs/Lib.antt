@@ -10,3 +10,5 @@ pub mod Says
 pub mod Determined
 pub mod Numbers
 pub mod WellFormed
+pub mod Laid
+pub mod Calls

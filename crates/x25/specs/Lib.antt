@@ -2,3 +2,4 @@ pub mod Facility
 pub mod Sndcf
 pub mod Packet
 pub mod Parse
+pub mod Layout
