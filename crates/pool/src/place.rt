@@ -8,7 +8,7 @@ ghost use Rattle.octets.specs.Emit.{put};
 ghost use Rattle.tables.specs.Tables.{word};
 ghost use Rattle.pool.specs.View.{tab};
 
-// The lengths of body and top are octets.
+// Body and top are lengths in octets.
 pub struct Place {
     pub key: [u64; 6],
     pub note: u64,
