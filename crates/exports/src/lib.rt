@@ -3,11 +3,17 @@ ghost use mathlib.Core.Path.{_≡_};
 ghost use mathlib.Core.List.{_∷_, []};
 ghost use lib.ListN.{length, set};
 ghost use Rattle.octets.specs.Emit.{put};
-ghost use Rattle.cells.specs.Answer.{answerTo, numberOf, countOf, outputOf};
+ghost use Rattle.cells.specs.Answer.{numberOf, countOf, outputOf};
+ghost use Rattle.cotp.specs.Tpdu.{cotpCells};
+ghost use Rattle.cotp.specs.Segment.{segmentOf};
 ghost use Rattle.print.specs.Print.{printed};
 ghost use Rattle.x25.specs.Packet.{x25Cells, x25Answer, payloadFor};
+ghost use Rattle.exports.specs.Told.{Told, isPiece, pieceNumbers};
+use cells::answer::Answer;
 use cells::answer::count as count_of;
 use cells::answer::number;
+use cotp::segment::Segment;
+use cotp::segment::cotp_dt_segment;
 
 // A number at index i, if said goes so far.
 fn say(said: &mut [u64], i: usize, x: u64)
@@ -34,14 +40,52 @@ pub extern "C" fn atn_parse_x25(b: &[u8], out: &mut [u64], said: &mut [u64]) -> 
     answer
 }
 
+// The number of an answer; its count is said.
+fn tell(a: Answer, said: &mut [u64]) -> u64
+    ensures { λ r. ⌜ r ≡ numberOf a ⌝ }
+    ensures { λ _. ⌜ now (said .exit) ≡ put (now (said .entry)) 0 (countOf a ∷ []) ⌝ }
+{
+    say(said, 0, count_of(a) as u64);
+    number(a) as u64
+}
+
+// The answer; the count of cells is said.
+#[no_mangle]
+pub extern "C" fn atn_parse_cotp(b: &[u8], out: &mut [u64], said: &mut [u64]) -> u64
+    ensures { λ r. ⌜ Told (length (now (b .entry))) (cotpCells (now (b .entry))) (now (out .entry)) (now (out .exit)) r (now (said .entry)) (now (said .exit)) ⌝ }
+{
+    let a = cotp::parse_cotp(b, out);
+    tell(a, said)
+}
+
 // The answer; the length of the text is said.
 #[no_mangle]
 pub extern "C" fn atn_print(cells: &[u64], input: &[u8], out: &mut [u8], said: &mut [u64]) -> u64
-    ensures { λ r. ⌜ r ≡ numberOf (answerTo (length (now (input .entry))) (printed (now (cells .entry)) (now (input .entry))) (length (now (out .entry)))) ⌝ }
-    ensures { λ _. ⌜ now (out .exit) ≡ outputOf (answerTo (length (now (input .entry))) (printed (now (cells .entry)) (now (input .entry))) (length (now (out .entry)))) (printed (now (cells .entry)) (now (input .entry))) (now (out .entry)) ⌝ }
-    ensures { λ _. ⌜ now (said .exit) ≡ put (now (said .entry)) 0 (countOf (answerTo (length (now (input .entry))) (printed (now (cells .entry)) (now (input .entry))) (length (now (out .entry)))) ∷ []) ⌝ }
+    ensures { λ r. ⌜ Told (length (now (input .entry))) (printed (now (cells .entry)) (now (input .entry))) (now (out .entry)) (now (out .exit)) r (now (said .entry)) (now (said .exit)) ⌝ }
 {
     let a = print::print(cells, input, out);
-    say(said, 0, count_of(a) as u64);
-    number(a) as u64
+    tell(a, said)
+}
+
+// Whether the octets are a piece of a unit; its reference, end mark, number and the place of its user data are said.
+#[no_mangle]
+pub extern "C" fn atn_cotp_dt_segment(b: &[u8], said: &mut [u64]) -> bool
+    ensures { λ r. ⌜ r ≡ isPiece (segmentOf (now (b .entry))) ⌝ }
+    ensures { λ _. ⌜ now (said .exit) ≡ put (now (said .entry)) 0 (pieceNumbers (segmentOf (now (b .entry)))) ⌝ }
+{
+    match cotp_dt_segment(b) {
+        Segment::Absent => false,
+        Segment::Piece {
+            dst,
+            eot,
+            number,
+            user,
+        } => {
+            say(said, 0, dst as u64);
+            say(said, 1, eot as u64);
+            say(said, 2, number as u64);
+            say(said, 3, user as u64);
+            true
+        }
+    }
 }

@@ -2,6 +2,8 @@
 
 extern "C" {
     fn atn_parse_x25(b: *const u8, nb: usize, out: *mut u64, no: usize, said: *mut u64, ns: usize) -> u64;
+    fn atn_parse_cotp(b: *const u8, nb: usize, out: *mut u64, no: usize, said: *mut u64, ns: usize) -> u64;
+    fn atn_cotp_dt_segment(b: *const u8, nb: usize, said: *mut u64, ns: usize) -> bool;
     fn atn_print(cells: *const u64, nc: usize, b: *const u8, nb: usize, out: *mut u8, no: usize, said: *mut u64, ns: usize) -> u64;
 }
 
@@ -20,6 +22,20 @@ pub fn parse_x25(b: &[u8], out: &mut [u64]) -> Said {
     let mut said = [u64::MAX; 2];
     let answer = unsafe { atn_parse_x25(b.as_ptr(), b.len(), out.as_mut_ptr(), out.len(), said.as_mut_ptr(), 2) };
     Said { answer, count: said[0] as usize, place: said[1] as usize }
+}
+
+/// It gives no part: the place is the end of the octets.
+pub fn parse_cotp(b: &[u8], out: &mut [u64]) -> Said {
+    let mut said = [u64::MAX; 1];
+    let answer = unsafe { atn_parse_cotp(b.as_ptr(), b.len(), out.as_mut_ptr(), out.len(), said.as_mut_ptr(), 1) };
+    Said { answer, count: said[0] as usize, place: b.len() }
+}
+
+/// Reference, end mark, number and the place of the user data.
+pub fn cotp_dt_segment(b: &[u8]) -> Option<[u64; 4]> {
+    let mut said = [u64::MAX; 4];
+    let is = unsafe { atn_cotp_dt_segment(b.as_ptr(), b.len(), said.as_mut_ptr(), 4) };
+    is.then_some(said)
 }
 
 /// The answer and the length of the text.
