@@ -9,3 +9,4 @@ pub mod Says
 pub mod Determined
 pub mod WellFormed
 pub mod Laid
+pub mod Numbered

@@ -1,0 +1,200 @@
+-- TPDUs with numbers that are laid out as X.224 draws them are read as what was laid out, where LI is odd in the extended format alone, which is
+-- where their parameters have an even count of octets; and what is read where it is not.
+use Prim.Native.Nat.{ℕ, _+_, _*_, _/_, _%_, _≤_, _<_}
+use mathlib.Core.Bool.{Bool, true, false, not, _&&_}
+use mathlib.Core.List.{List, [], _∷_, _++_}
+use mathlib.Core.Path.{_≡_, refl, sym, ap, _∙_}
+use native.Mathlib.Omega.{arith}
+use borrow.Author.Tests.{lt-ltb, le-ltb, ne-eqb, eq-eqb}
+use lib.Dec.{ltb, eqb}
+use lib.ListN.{length, getD, take, drop, length-append}
+use Rattle.octets.specs.Text.{pick}
+use Rattle.octets.specs.Read.{be16, be32, bigEndian, octetsOf}
+use Rattle.octets.proofs.Numbers.{be32-is}
+use Rattle.names.specs.Numbers.{kRoa, kEot, kTpduSeq, kCredit, tDt, tEd, tAk, tEa, tRj}
+use Rattle.cells.specs.Items.{Items, none, leaf, number, flag, _⊕_}
+use Rattle.cotp.specs.Tpdu.{nameOf, fixedLen, noHead, headOf, seqOf, creditMembers, dataMembers, fixedMembers}
+use Rattle.cotp.specs.Segment.{segmentOf, userFrom}
+use Rattle.cotp.specs.Layout.{laid, two, numberLaid, dataLaid, expeditedLaid, creditLaid}
+use Rattle.cotp.specs.declared.tpdu.Head.{Head}
+use Rattle.cotp.specs.declared.segment.Segment.the-variants.{Absent, Piece}
+use Rattle.cotp.proofs.Laid.{two-back, four-back, user-back, part-back, head-is, Read, read-by}
+
+-- ---- a number under an end mark
+abbrev pub limit : Bool → ℕ
+limit extended = pick extended 2147483648 128
+
+-- with parameters and user data behind it
+module _ (a b c d mark n : ℕ) (params user : List ℕ) (hm : mark < 2) where
+  pub seq-back : (extended : Bool) → n < limit extended → seqOf (a ∷ b ∷ c ∷ d ∷ ((numberLaid extended mark n ++ params) ++ user)) extended ≡ n
+  seq-back true h = ap (λ (z : ℕ). z % 2147483648) (four-back (mark * 2147483648 + n) (params ++ user) (omega arith)) ∙ omega arith
+  seq-back false h = omega arith
+
+  pub mark-back : (extended : Bool) → n < limit extended → getD (a ∷ b ∷ c ∷ d ∷ ((numberLaid extended mark n ++ params) ++ user)) 4 0 / 128 ≡ mark
+  mark-back true h = omega arith
+  mark-back false h = omega arith
+
+-- ---- heads: the high half of the code octet, the name, and the octets of the fixed part in the extended format, with LI
+pub data Numbered : ℕ → ℕ → ℕ → Type 0 where
+  dt : Numbered 0xF tDt 8
+  ed : Numbered 0x1 tEd 8
+  ea : Numbered 0x2 tEa 8
+  ak : Numbered 0x6 tAk 10
+  rj : Numbered 0x5 tRj 10
+
+abbrev pub numberedHead : ℕ → ℕ → Bool → ℕ → Head
+numberedHead li name extended long = record { li = li; name = name; extended = extended; fixed = pick extended long 5 }
+
+module _ (s : List ℕ) (li : ℕ) (e : getD s 0 0 ≡ li) (p : 0 < li) (l : li < 255) (extended : Bool) (x : eqb (li % 2) 1 ≡ extended) (n : 5 ≤ length s) where
+  numbered-head : {code name long : ℕ} → Numbered code name long → getD s 1 0 / 16 ≡ code → pick extended long 5 ≤ length s
+      → headOf s ≡ numberedHead li name extended long
+  unfolding nameOf fixedLen
+  numbered-head dt c h = head-is s li tDt extended e p l (omega arith) (ap nameOf c) (λ q. omega arith) x h
+  numbered-head ed c h = head-is s li tEd extended e p l (omega arith) (ap nameOf c) (λ q. omega arith) x h
+  numbered-head ea c h = head-is s li tEa extended e p l (omega arith) (ap nameOf c) (λ q. omega arith) x h
+  numbered-head ak c h = head-is s li tAk extended e p l (omega arith) (ap nameOf c) (λ q. omega arith) x h
+  numbered-head rj c h = head-is s li tRj extended e p l (omega arith) (ap nameOf c) (λ q. omega arith) x h
+
+numbered-long : {code name long : ℕ} → Numbered code name long → (8 ≤ long) × (long % 2 ≡ 0)
+numbered-long dt = (omega arith, refl)
+numbered-long ed = (omega arith, refl)
+numbered-long ea = (omega arith, refl)
+numbered-long ak = (omega arith, refl)
+numbered-long rj = (omega arith, refl)
+
+-- LI behind a fixed part with numbers, where the parameters have an even count of octets, and where they have an odd one
+even-parity : (extended : Bool) (long p li : ℕ) → long % 2 ≡ 0 → p % 2 ≡ 0 → li + 1 ≡ pick extended long 5 + p → eqb (li % 2) 1 ≡ extended
+even-parity true long p li h q e = eq-eqb (li % 2) 1 (omega arith)
+even-parity false long p li h q e = ne-eqb (li % 2) 1 (λ z. omega arith)
+
+odd-parity : (extended : Bool) (long p li : ℕ) → long % 2 ≡ 0 → p % 2 ≡ 1 → li + 1 ≡ pick extended long 5 + p → eqb (li % 2) 1 ≡ not extended
+odd-parity true long p li h q e = ne-eqb (li % 2) 1 (λ z. omega arith)
+odd-parity false long p li h q e = eq-eqb (li % 2) 1 (omega arith)
+
+least : (extended : Bool) (long : ℕ) → 8 ≤ long → 5 ≤ pick extended long 5
+least true long h = omega arith
+least false long h = omega arith
+
+numbered-read : {code name long : ℕ} → Numbered code name long → (extended : Bool) (front params user : List ℕ) (li dst : ℕ) (fields : Items) → length front + 1 ≡ pick extended long 5
+    → li ≡ length front + length params → li < 255 → length params % 2 ≡ 0 → getD (laid (front ++ params) user) 1 0 / 16 ≡ code
+    → be16 (getD (laid (front ++ params) user) 2 0) (getD (laid (front ++ params) user) 3 0) ≡ dst → fixedMembers (laid (front ++ params) user) name extended ≡ fields
+    → Read (laid (front ++ params) user) (numberedHead li name extended long) dst fields params user
+numbered-read {code} {name} {long} k extended front params user li dst fields f l h q c r m =
+    let s : List ℕ = laid (front ++ params) user in
+    let w : 8 ≤ long = numbered-long k .0 in
+    let b : 5 ≤ pick extended long 5 = least extended long w in
+    let z : length (front ++ params) ≡ length front + length params = length-append front params in
+    let n : length s ≡ li + 1 + length user = omega (arith, length-append (front ++ params) user, z, l) in
+    let x : eqb (li % 2) 1 ≡ extended = even-parity extended long (length params) li (numbered-long k .1) q (omega (arith, f, l)) in
+    read-by front params user (numberedHead li name extended long) dst fields l (sym f)
+    (numbered-head s li (z ∙ sym l) (omega (arith, b, f, l)) h extended x (omega (arith, b, f, l, n)) k c (omega (arith, f, l, n))) r m
+
+-- ---- data and expedited data: the code octet, the name, and what is told before the end mark
+pub data Data : ℕ → ℕ → Items → Type 0 where
+  plain : Data 0xF0 tDt (leaf kRoa (flag 0) none)
+  asking : Data 0xF1 tDt (leaf kRoa (flag 1) none)
+  expedited : Data 0x10 tEd none
+
+data-numbered : {code name : ℕ} {before : Items} → Data code name before → Numbered (code / 16) name 8
+data-numbered plain = dt
+data-numbered asking = dt
+data-numbered expedited = ed
+
+abbrev pub sequenced : ℕ → Items
+sequenced n = leaf kTpduSeq (number n) none
+
+abbrev pub marked : ℕ → ℕ → Items
+marked eot n = leaf kEot (flag eot) none ⊕ sequenced n
+
+data-fixed : {code name : ℕ} {before : Items} → Data code name before → (li : ℕ) (rest : List ℕ) (extended : Bool)
+    → fixedMembers (li ∷ code ∷ rest) name extended ≡ before ⊕ marked (getD (li ∷ code ∷ rest) 4 0 / 128) (seqOf (li ∷ code ∷ rest) extended)
+unfolding fixedMembers
+data-fixed plain li rest extended = refl
+data-fixed asking li rest extended = refl
+data-fixed expedited li rest extended = refl
+
+-- LI, with p octets of parameters
+abbrev pub dataLi : Bool → ℕ → ℕ
+dataLi extended p = pick extended 7 4 + p
+
+number-long : (extended : Bool) (mark n : ℕ) → length (numberLaid extended mark n) + 3 ≡ pick extended 7 4
+number-long true mark n = refl
+number-long false mark n = refl
+
+-- the fixed part of data, of expedited data and of expedited acknowledgements
+abbrev front : ℕ → Bool → ℕ → ℕ → ℕ → List ℕ
+front code extended dst mark n = code ∷ (two dst ++ numberLaid extended mark n)
+
+front-long : (code : ℕ) (extended : Bool) (dst mark n : ℕ) → length (front code extended dst mark n) ≡ pick extended 7 4
+front-long code extended dst mark n = omega (arith, number-long extended mark n)
+
+front-ends : (extended : Bool) → pick extended 7 4 + 1 ≡ pick extended 8 5
+front-ends true = refl
+front-ends false = refl
+
+module _ (extended : Bool) (dst n : ℕ) (params : List ℕ) (hd : dst < 65536) (hn : n < limit extended) (even : length params % 2 ≡ 0)
+    (hl : dataLi extended (length params) < 255) where
+  front-read : {code name : ℕ} → Numbered (code / 16) name 8 → (mark : ℕ) (user : List ℕ) (fields : Items) → fixedMembers (dataLaid code extended dst mark n params user) name extended ≡ fields
+      → Read (dataLaid code extended dst mark n params user) (numberedHead (dataLi extended (length params)) name extended 8) dst fields params user
+  front-read {code} k mark user fields m =
+      let f = front-long code extended dst mark n in
+      numbered-read k extended (front code extended dst mark n) params user (dataLi extended (length params)) dst fields
+      (ap (λ (z : ℕ). z + 1) f ∙ front-ends extended) (ap (λ (z : ℕ). z + length params) (sym f)) hl even refl (two-back dst [] hd) m
+
+  pub data-read : {code name : ℕ} {before : Items} → Data code name before → (eot : ℕ) (user : List ℕ) → eot < 2
+      → Read (dataLaid code extended dst eot n params user) (numberedHead (dataLi extended (length params)) name extended 8) dst (before ⊕ marked eot n) params user
+  data-read {code} {name} {before} k eot user hm =
+      let li : ℕ = length (front code extended dst eot n ++ params) in
+      let m = mark-back li code (dst / 256 % 256) (dst % 256) eot n params user hm extended hn in
+      let q = seq-back li code (dst / 256 % 256) (dst % 256) eot n params user hm extended hn in
+      front-read (data-numbered k) eot user (before ⊕ marked eot n) (data-fixed k li _ extended ∙ (λ i. before ⊕ marked (m i) (q i)))
+
+  -- expedited acknowledgement
+  pub expedited-read : Read (expeditedLaid extended dst n params) (numberedHead (dataLi extended (length params)) tEa extended 8) dst (sequenced n) params []
+  unfolding fixedMembers
+  expedited-read =
+      let li : ℕ = length (front 0x20 extended dst 0 n ++ params) in
+      front-read ea 0 [] (sequenced n) (ap sequenced (seq-back li 0x20 (dst / 256 % 256) (dst % 256) 0 n params [] (omega arith) extended hn))
+
+-- ---- acknowledgement and reject: the high half of the code octet, and the name
+pub data Credit : ℕ → ℕ → Type 0 where
+  acknowledge : Credit 6 tAk
+  reject : Credit 5 tRj
+
+credit-numbered : {code name : ℕ} → Credit code name → Numbered code name 10
+credit-numbered acknowledge = ak
+credit-numbered reject = rj
+
+credit-fixed : {code name : ℕ} → Credit code name → (s : List ℕ) (extended : Bool) → fixedMembers s name extended ≡ creditMembers s extended
+unfolding fixedMembers
+credit-fixed acknowledge s extended = refl
+credit-fixed reject s extended = refl
+
+abbrev pub credited : Bool → ℕ → ℕ → Items
+credited extended n credit = pick extended (sequenced n ⊕ leaf kCredit (number credit) none) (leaf kCredit (number credit) none ⊕ sequenced n)
+
+abbrev pub creditLi : Bool → ℕ → ℕ
+creditLi extended p = pick extended 9 4 + p
+
+pub credit-read : {code name : ℕ} → Credit code name → (extended : Bool) (dst n credit : ℕ) (params : List ℕ) → dst < 65536 → n < limit extended → credit < pick extended 65536 16
+    → length params % 2 ≡ 0 → creditLi extended (length params) < 255
+    → Read (creditLaid code extended dst n credit params) (numberedHead (creditLi extended (length params)) name extended 10) dst (credited extended n credit) params []
+credit-read {code} k true dst n credit params hd hn hc even hl =
+    let behind : List ℕ = two credit ++ params in
+    let q = seq-back (length params) (code * 16) (dst / 256 % 256) (dst % 256) 0 n behind [] (omega arith) true hn in
+    numbered-read (credit-numbered k) true ((code * 16) ∷ (two dst ++ (numberLaid true 0 n ++ two credit))) params [] (9 + length params) dst (credited true n credit)
+    refl (omega arith) hl even (omega arith) (two-back dst [] hd) (credit-fixed k _ true ∙ (λ i. credited true (q i) (two-back credit [] hc i)))
+credit-read {code} k false dst n credit params hd hn hc even hl =
+    let q = seq-back (length params) (code * 16 + credit) (dst / 256 % 256) (dst % 256) 0 n params [] (omega arith) false hn in
+    let c : (code * 16 + credit) % 16 ≡ credit = omega arith in
+    numbered-read (credit-numbered k) false ((code * 16 + credit) ∷ (two dst ++ numberLaid false 0 n)) params [] (4 + length params) dst (credited false n credit)
+    refl (omega arith) hl even (omega arith) (two-back dst [] hd) (credit-fixed k _ false ∙ (λ i. credited false (q i) (c i)))
+
+-- ---- data as a piece of a unit
+pub segment-other : (s : List ℕ) → (getD s 1 0 / 16 ≡ 15 → ⊥) → segmentOf s ≡ Absent
+unfolding segmentOf
+segment-other s h = simp (ne-eqb (getD s 1 0 / 16) 15 h, absent)
+  where
+    absent : (b : Bool) → pick b Absent Absent ≡ Absent
+    absent true = refl
+    absent false = refl
