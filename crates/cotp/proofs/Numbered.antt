@@ -3,7 +3,7 @@
 use Prim.Native.Nat.{ℕ, _+_, _*_, _/_, _%_, _≤_, _<_}
 use mathlib.Core.Bool.{Bool, true, false, not, _&&_}
 use mathlib.Core.List.{List, [], _∷_, _++_}
-use mathlib.Core.Path.{_≡_, refl, sym, ap, _∙_}
+use mathlib.Core.Path.{_≡_, refl, sym, ap, subst, _∙_}
 use native.Mathlib.Omega.{arith}
 use borrow.Author.Tests.{lt-ltb, le-ltb, ne-eqb, eq-eqb}
 use lib.Dec.{ltb, eqb}
@@ -13,11 +13,13 @@ use Rattle.octets.specs.Read.{be16, be32, bigEndian, octetsOf}
 use Rattle.octets.proofs.Numbers.{be32-is}
 use Rattle.names.specs.Numbers.{kRoa, kEot, kTpduSeq, kCredit, tDt, tEd, tAk, tEa, tRj}
 use Rattle.cells.specs.Items.{Items, none, leaf, number, flag, _⊕_}
-use Rattle.cotp.specs.Tpdu.{nameOf, fixedLen, noHead, headOf, seqOf, creditMembers, dataMembers, fixedMembers}
+use Rattle.cotp.specs.Tpdu.{nameOf, numbered, fixedLen, noHead, headOf, seqOf, creditMembers, dataMembers, fixedMembers}
 use Rattle.cotp.specs.Segment.{segmentOf, userFrom}
 use Rattle.cotp.specs.Layout.{laid, two, numberLaid, dataLaid, expeditedLaid, creditLaid}
 use Rattle.cotp.specs.declared.tpdu.Head.{Head}
+use Rattle.cotp.specs.declared.segment.Segment.{Segment}
 use Rattle.cotp.specs.declared.segment.Segment.the-variants.{Absent, Piece}
+use Rattle.cotp.proofs.Segments.{is-piece}
 use Rattle.cotp.proofs.Laid.{two-back, four-back, user-back, part-back, head-is, Read, read-by}
 
 -- ---- a number under an end mark
@@ -54,6 +56,24 @@ module _ (s : List ℕ) (li : ℕ) (e : getD s 0 0 ≡ li) (p : 0 < li) (l : li 
   numbered-head ea c h = head-is s li tEa extended e p l (omega arith) (ap nameOf c) (λ q. omega arith) x h
   numbered-head ak c h = head-is s li tAk extended e p l (omega arith) (ap nameOf c) (λ q. omega arith) x h
   numbered-head rj c h = head-is s li tRj extended e p l (omega arith) (ap nameOf c) (λ q. omega arith) x h
+
+pick-same : {A : Type 0} (b : Bool) (x : A) → pick b x x ≡ x
+pick-same true x = refl
+pick-same false x = refl
+
+-- with fewer octets than the fixed part has, none is read
+head-none : (s : List ℕ) (name : ℕ) (extended : Bool) → nameOf (getD s 1 0 / 16) ≡ name → (numbered name && eqb (getD s 0 0 % 2) 1) ≡ extended → length s < fixedLen name extended
+    → headOf s ≡ noHead
+unfolding headOf
+head-none s name extended t x h = simp (t, x, lt-ltb (length s) (fixedLen name extended) h, pick-same)
+
+no-head : (s : List ℕ) {code name long : ℕ} → Numbered code name long → getD s 1 0 / 16 ≡ code → eqb (getD s 0 0 % 2) 1 ≡ true → length s < long → headOf s ≡ noHead
+unfolding nameOf fixedLen
+no-head s dt c x h = head-none s tDt true (ap nameOf c) x h
+no-head s ed c x h = head-none s tEd true (ap nameOf c) x h
+no-head s ea c x h = head-none s tEa true (ap nameOf c) x h
+no-head s ak c x h = head-none s tAk true (ap nameOf c) x h
+no-head s rj c x h = head-none s tRj true (ap nameOf c) x h
 
 numbered-long : {code name long : ℕ} → Numbered code name long → (8 ≤ long) × (long % 2 ≡ 0)
 numbered-long dt = (omega arith, refl)
@@ -193,8 +213,87 @@ credit-read {code} k false dst n credit params hd hn hc even hl =
 -- ---- data as a piece of a unit
 pub segment-other : (s : List ℕ) → (getD s 1 0 / 16 ≡ 15 → ⊥) → segmentOf s ≡ Absent
 unfolding segmentOf
-segment-other s h = simp (ne-eqb (getD s 1 0 / 16) 15 h, absent)
-  where
-    absent : (b : Bool) → pick b Absent Absent ≡ Absent
-    absent true = refl
-    absent false = refl
+segment-other s h = simp (ne-eqb (getD s 1 0 / 16) 15 h, pick-same)
+
+-- how long a TPDU with the fixed part of data is
+front-size : (code : ℕ) (extended : Bool) (dst mark n : ℕ) (params : List ℕ) → length (front code extended dst mark n ++ params) ≡ dataLi extended (length params)
+front-size code extended dst mark n params =
+    length-append (front code extended dst mark n) params ∙ ap (λ (z : ℕ). z + length params) (front-long code extended dst mark n)
+
+data-size : (code : ℕ) (extended : Bool) (dst mark n : ℕ) (params user : List ℕ) → length (dataLaid code extended dst mark n params user) ≡ dataLi extended (length params) + 1 + length user
+data-size code extended dst mark n params user =
+    let header : List ℕ = front code extended dst mark n ++ params in
+    omega (arith, length-append header user, front-size code extended dst mark n params)
+
+module _ (code : ℕ) (extended : Bool) (dst eot n : ℕ) (params user : List ℕ) (hc : code / 16 ≡ 15) (hd : dst < 65536) (hm : eot < 2) (hn : n < limit extended)
+    (even : length params % 2 ≡ 0) (hl : dataLi extended (length params) < 255) where
+  abbrev piece : List ℕ
+  piece = dataLaid code extended dst eot n params user
+
+  abbrev count : ℕ
+  count = dataLi extended (length params)
+
+  piece-read : Read piece (numberedHead count tDt extended 8) dst (fixedMembers piece tDt extended) params user
+  piece-read = front-read extended dst n params hd hn even hl (subst (λ (z : ℕ). Numbered z tDt 8) (sym hc) dt) eot user (fixedMembers piece tDt extended) refl
+
+  pub data-segment : segmentOf piece ≡ Piece dst eot n (count + 1)
+  data-segment =
+      let k = data-size code extended dst eot n params user in
+      let z = front-size code extended dst eot n params in
+      let f = front-ends extended in
+      let b : 5 ≤ pick extended 8 5 = least extended 8 (omega arith) in
+      let x : eqb (count % 2) 1 ≡ extended = even-parity extended 8 (length params) count refl even (omega (arith, f)) in
+      let m : getD piece 4 0 / 128 ≡ eot = mark-back (getD piece 0 0) code (dst / 256 % 256) (dst % 256) eot n params user hm extended hn in
+      let q : seqOf piece (eqb (count % 2) 1) ≡ n = ap (seqOf piece) x ∙ seq-back (getD piece 0 0) code (dst / 256 % 256) (dst % 256) eot n params user hm extended hn in
+      sym (is-piece piece count (sym z) (omega (arith, k)) (λ e. omega (arith, e, f, b)) (λ e. omega (arith, e, hl)) hc
+      (pick extended 8 5) (ap (λ (y : Bool). pick y 8 5) (sym x)) (omega (arith, k, f)) (sym (λ i. Piece (piece-read .ref i) (m i) (q i) (count + 1))))
+
+  pub segment-user : drop (userFrom piece (segmentOf piece)) piece ≡ user
+  segment-user = ap (λ (g : Segment). drop (userFrom piece g) piece) data-segment ∙ piece-read .behind
+
+-- the first four of octets as a number
+four-front : (a : ℕ) (xs : List ℕ) → 3 ≤ length xs → be32 a (getD xs 0 0) (getD xs 1 0) (getD xs 2 0) ≡ bigEndian (take 4 (a ∷ xs))
+four-front a [] h = absurd (omega arith)
+four-front a (b ∷ []) h = absurd (omega arith)
+four-front a (b ∷ (c ∷ [])) h = absurd (omega arith)
+four-front a (b ∷ (c ∷ (d ∷ xs))) h = sym (be32-is a b c d)
+
+-- ---- the other parity: the one format is read as the other
+module _ {code name : ℕ} {before : Items} (k : Data code name before) (dst eot n : ℕ) (params user : List ℕ) (odd : length params % 2 ≡ 1) where
+  abbrev other : Bool → List ℕ
+  other extended = dataLaid code extended dst eot n params user
+
+  odd-head : (extended : Bool) → dataLi extended (length params) < 255 → pick (not extended) 8 5 ≤ length (other extended)
+      → headOf (other extended) ≡ numberedHead (dataLi extended (length params)) name (not extended) 8
+  odd-head extended hl h =
+      let li : ℕ = dataLi extended (length params) in
+      let f = front-ends extended in
+      let b : 5 ≤ pick extended 8 5 = least extended 8 (omega arith) in
+      let x : eqb (li % 2) 1 ≡ not extended = odd-parity extended 8 (length params) li refl odd (omega (arith, f)) in
+      numbered-head (other extended) li (front-size code extended dst eot n params) (omega (arith, f, b)) hl (not extended) x
+      (omega (arith, f, b, data-size code extended dst eot n params user)) (data-numbered k) refl h
+
+  -- the normal format as the extended one: the number of the four octets behind the reference, if there are four
+  pub normal-odd-head : dataLi false (length params) < 255 → 8 ≤ length (other false) → headOf (other false) ≡ numberedHead (4 + length params) name true 8
+  normal-odd-head hl h = odd-head false hl h
+
+  pub normal-odd-seq : 8 ≤ length (other false) → seqOf (other false) true ≡ bigEndian (take 4 (drop 4 (other false))) % 2147483648
+  normal-odd-seq h =
+      ap (λ (z : ℕ). z % 2147483648) (four-front (eot * 128 + n) (params ++ user) (omega (arith, h, length-append params user, data-size code false dst eot n params user)))
+
+  -- else it is unreadable
+  pub normal-odd-short : length (other false) < 8 → headOf (other false) ≡ noHead
+  normal-odd-short h =
+      let li : ℕ = getD (other false) 0 0 in
+      let x : eqb (li % 2) 1 ≡ true = odd-parity false 8 (length params) li refl odd (omega (arith, front-size code false dst eot n params)) in
+      no-head (other false) (data-numbered k) refl x h
+
+  -- the extended format as the normal one: the first octet of the number, modulo 128
+  pub extended-even-head : dataLi true (length params) < 255 → headOf (other true) ≡ numberedHead (7 + length params) name false 8
+  extended-even-head hl = odd-head true hl (omega (arith, data-size code true dst eot n params user))
+
+  pub extended-even-seq : seqOf (other true) false ≡ getD (numberLaid true eot n) 0 0 % 128
+  extended-even-seq = refl
+
+  pub extended-even-high : n < 2147483648 → seqOf (other true) false ≡ n / 16777216
+  extended-even-high h = omega arith
