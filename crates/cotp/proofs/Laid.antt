@@ -5,10 +5,9 @@ use mathlib.Core.List.{List, [], _∷_, _++_, append-assoc}
 use mathlib.Core.Path.{_≡_, refl, sym, ap, _∙_}
 use native.Mathlib.Omega.{arith}
 use borrow.Author.Tests.{le-ltb, le-leb, ne-eqb}
-use lib.Dec.{ltb, eqb}
-use lib.ListN.{length, getD, take, drop, length-append}
+use lib.Dec.{eqb}
+use lib.ListN.{length, getD, drop, length-append}
 use lib.Seq.{getD-at, getD-append-add, take-at, drop-at}
-use Rattle.octets.specs.Text.{pick}
 use Rattle.octets.specs.Read.{be16, be32, octetsOf}
 use Rattle.octets.proofs.Numbers.{be16-is, be32-is, number-back}
 use Rattle.names.specs.Numbers.{kTpdu, kDstRef, kClass, kOptions, kReason, kReasonText, kRejectCause, kRejectCauseText, kExtended, kParams, kSrcRef, tCr, tCc, tDr, tDc, tEr}
@@ -53,8 +52,8 @@ part-back front params user h l f =
     simp (le-leb (h .li + 1) (length s) (omega arith), d) (take-at params user (h .li + 1 - h .fixed) (omega arith))
 
 -- ---- heads
-pub head-is : (s : List ℕ) (li name : ℕ) (extended : Bool) → getD s 0 0 ≡ li → 0 < li → li < 255 → 4 ≤ length s → nameOf (getD s 1 0 / 16) ≡ name → (name ≡ 0 → ⊥)
-    → (numbered name && eqb (li % 2) 1) ≡ extended → fixedLen name extended ≤ length s
+pub head-is : (s : List ℕ) (li name : ℕ) (extended : Bool) → getD s 0 0 ≡ li → 0 < li → li < 255 → 4 ≤ length s
+    → nameOf (getD s 1 0 / 16) ≡ name → (name ≡ 0 → ⊥) → (numbered name && eqb (li % 2) 1) ≡ extended → fixedLen name extended ≤ length s
     → headOf s ≡ record { li = li; name = name; extended = extended; fixed = fixedLen name extended }
 unfolding headOf
 head-is s li name extended e p l n t z x f =
@@ -105,8 +104,8 @@ pub data Plain : ℕ → ℕ → ℕ → Type 0 where
 abbrev pub plainHead : ℕ → ℕ → ℕ → Head
 plainHead li name fixed = record { li = li; name = name; extended = false; fixed = fixed }
 
-plain-head : {code name fixed : ℕ} → Plain code name fixed → (s : List ℕ) (li : ℕ) → getD s 0 0 ≡ li → 0 < li → li < 255 → getD s 1 0 / 16 ≡ code → fixed ≤ length s
-    → headOf s ≡ plainHead li name fixed
+plain-head : {code name fixed : ℕ} → Plain code name fixed → (s : List ℕ) (li : ℕ) → getD s 0 0 ≡ li → 0 < li → li < 255 → getD s 1 0 / 16 ≡ code
+    → fixed ≤ length s → headOf s ≡ plainHead li name fixed
 unfolding nameOf fixedLen
 plain-head cr s li e p l c n = head-is s li tCr false e p l (omega arith) (ap nameOf c) (λ q. omega arith) refl n
 plain-head cc s li e p l c n = head-is s li tCc false e p l (omega arith) (ap nameOf c) (λ q. omega arith) refl n
@@ -122,7 +121,8 @@ plain-some dc = omega arith
 plain-some er = omega arith
 
 plain-read : {code name fixed : ℕ} → Plain code name fixed → (front params user : List ℕ) (li dst : ℕ) (fields : Items) → length front + 1 ≡ fixed
-    → li ≡ length front + length params → li < 255 → getD (laid (front ++ params) user) 1 0 / 16 ≡ code → be16 (getD (laid (front ++ params) user) 2 0) (getD (laid (front ++ params) user) 3 0) ≡ dst
+    → li ≡ length front + length params → li < 255 → getD (laid (front ++ params) user) 1 0 / 16 ≡ code
+    → be16 (getD (laid (front ++ params) user) 2 0) (getD (laid (front ++ params) user) 3 0) ≡ dst
     → fixedMembers (laid (front ++ params) user) name false ≡ fields → Read (laid (front ++ params) user) (plainHead li name fixed) dst fields params user
 plain-read {code} {name} {fixed} p front params user li dst fields f l h c r m =
     let s : List ℕ = laid (front ++ params) user in

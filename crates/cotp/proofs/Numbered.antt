@@ -5,22 +5,22 @@ use mathlib.Core.Bool.{Bool, true, false, not, _&&_}
 use mathlib.Core.List.{List, [], _∷_, _++_}
 use mathlib.Core.Path.{_≡_, refl, sym, ap, subst, _∙_}
 use native.Mathlib.Omega.{arith}
-use borrow.Author.Tests.{lt-ltb, le-ltb, ne-eqb, eq-eqb}
-use lib.Dec.{ltb, eqb}
+use borrow.Author.Tests.{lt-ltb, ne-eqb, eq-eqb}
+use lib.Dec.{eqb}
 use lib.ListN.{length, getD, take, drop, length-append}
 use Rattle.octets.specs.Text.{pick}
-use Rattle.octets.specs.Read.{be16, be32, bigEndian, octetsOf}
+use Rattle.octets.specs.Read.{be16, be32, bigEndian}
 use Rattle.octets.proofs.Numbers.{be32-is}
 use Rattle.names.specs.Numbers.{kRoa, kEot, kTpduSeq, kCredit, tDt, tEd, tAk, tEa, tRj}
 use Rattle.cells.specs.Items.{Items, none, leaf, number, flag, _⊕_}
-use Rattle.cotp.specs.Tpdu.{nameOf, numbered, fixedLen, noHead, headOf, seqOf, creditMembers, dataMembers, fixedMembers}
+use Rattle.cotp.specs.Tpdu.{nameOf, numbered, fixedLen, noHead, headOf, seqOf, creditMembers, fixedMembers}
 use Rattle.cotp.specs.Segment.{segmentOf, userFrom}
 use Rattle.cotp.specs.Layout.{laid, two, numberLaid, dataLaid, expeditedLaid, creditLaid}
 use Rattle.cotp.specs.declared.tpdu.Head.{Head}
 use Rattle.cotp.specs.declared.segment.Segment.{Segment}
 use Rattle.cotp.specs.declared.segment.Segment.the-variants.{Absent, Piece}
 use Rattle.cotp.proofs.Segments.{is-piece}
-use Rattle.cotp.proofs.Laid.{two-back, four-back, user-back, part-back, head-is, Read, read-by}
+use Rattle.cotp.proofs.Laid.{two-back, four-back, head-is, Read, read-by}
 
 -- ---- a number under an end mark
 abbrev pub limit : Bool → ℕ
@@ -62,12 +62,13 @@ pick-same true x = refl
 pick-same false x = refl
 
 -- with fewer octets than the fixed part has, none is read
-head-none : (s : List ℕ) (name : ℕ) (extended : Bool) → nameOf (getD s 1 0 / 16) ≡ name → (numbered name && eqb (getD s 0 0 % 2) 1) ≡ extended → length s < fixedLen name extended
-    → headOf s ≡ noHead
+head-none : (s : List ℕ) (name : ℕ) (extended : Bool) → nameOf (getD s 1 0 / 16) ≡ name
+    → (numbered name && eqb (getD s 0 0 % 2) 1) ≡ extended → length s < fixedLen name extended → headOf s ≡ noHead
 unfolding headOf
 head-none s name extended t x h = simp (t, x, lt-ltb (length s) (fixedLen name extended) h, pick-same)
 
-no-head : (s : List ℕ) {code name long : ℕ} → Numbered code name long → getD s 1 0 / 16 ≡ code → eqb (getD s 0 0 % 2) 1 ≡ true → length s < long → headOf s ≡ noHead
+no-head : (s : List ℕ) {code name long : ℕ} → Numbered code name long → getD s 1 0 / 16 ≡ code → eqb (getD s 0 0 % 2) 1 ≡ true → length s < long
+    → headOf s ≡ noHead
 unfolding nameOf fixedLen
 no-head s dt c x h = head-none s tDt true (ap nameOf c) x h
 no-head s ed c x h = head-none s tEd true (ap nameOf c) x h
@@ -95,8 +96,8 @@ least : (extended : Bool) (long : ℕ) → 8 ≤ long → 5 ≤ pick extended lo
 least true long h = omega arith
 least false long h = omega arith
 
-numbered-read : {code name long : ℕ} → Numbered code name long → (extended : Bool) (front params user : List ℕ) (li dst : ℕ) (fields : Items) → length front + 1 ≡ pick extended long 5
-    → li ≡ length front + length params → li < 255 → length params % 2 ≡ 0 → getD (laid (front ++ params) user) 1 0 / 16 ≡ code
+numbered-read : {code name long : ℕ} → Numbered code name long → (extended : Bool) (front params user : List ℕ) (li dst : ℕ) (fields : Items)
+    → length front + 1 ≡ pick extended long 5 → li ≡ length front + length params → li < 255 → length params % 2 ≡ 0 → getD (laid (front ++ params) user) 1 0 / 16 ≡ code
     → be16 (getD (laid (front ++ params) user) 2 0) (getD (laid (front ++ params) user) 3 0) ≡ dst → fixedMembers (laid (front ++ params) user) name extended ≡ fields
     → Read (laid (front ++ params) user) (numberedHead li name extended long) dst fields params user
 numbered-read {code} {name} {long} k extended front params user li dst fields f l h q c r m =
@@ -154,7 +155,8 @@ front-ends false = refl
 
 module _ (extended : Bool) (dst n : ℕ) (params : List ℕ) (hd : dst < 65536) (hn : n < limit extended) (even : length params % 2 ≡ 0)
     (hl : dataLi extended (length params) < 255) where
-  front-read : {code name : ℕ} → Numbered (code / 16) name 8 → (mark : ℕ) (user : List ℕ) (fields : Items) → fixedMembers (dataLaid code extended dst mark n params user) name extended ≡ fields
+  front-read : {code name : ℕ} → Numbered (code / 16) name 8 → (mark : ℕ) (user : List ℕ) (fields : Items)
+      → fixedMembers (dataLaid code extended dst mark n params user) name extended ≡ fields
       → Read (dataLaid code extended dst mark n params user) (numberedHead (dataLi extended (length params)) name extended 8) dst fields params user
   front-read {code} k mark user fields m =
       let f = front-long code extended dst mark n in
@@ -196,8 +198,8 @@ credited extended n credit = pick extended (sequenced n ⊕ leaf kCredit (number
 abbrev pub creditLi : Bool → ℕ → ℕ
 creditLi extended p = pick extended 9 4 + p
 
-pub credit-read : {code name : ℕ} → Credit code name → (extended : Bool) (dst n credit : ℕ) (params : List ℕ) → dst < 65536 → n < limit extended → credit < pick extended 65536 16
-    → length params % 2 ≡ 0 → creditLi extended (length params) < 255
+pub credit-read : {code name : ℕ} → Credit code name → (extended : Bool) (dst n credit : ℕ) (params : List ℕ)
+    → dst < 65536 → n < limit extended → credit < pick extended 65536 16 → length params % 2 ≡ 0 → creditLi extended (length params) < 255
     → Read (creditLaid code extended dst n credit params) (numberedHead (creditLi extended (length params)) name extended 10) dst (credited extended n credit) params []
 credit-read {code} k true dst n credit params hd hn hc even hl =
     let behind : List ℕ = two credit ++ params in
@@ -220,7 +222,8 @@ front-size : (code : ℕ) (extended : Bool) (dst mark n : ℕ) (params : List �
 front-size code extended dst mark n params =
     length-append (front code extended dst mark n) params ∙ ap (λ (z : ℕ). z + length params) (front-long code extended dst mark n)
 
-data-size : (code : ℕ) (extended : Bool) (dst mark n : ℕ) (params user : List ℕ) → length (dataLaid code extended dst mark n params user) ≡ dataLi extended (length params) + 1 + length user
+data-size : (code : ℕ) (extended : Bool) (dst mark n : ℕ) (params user : List ℕ)
+    → length (dataLaid code extended dst mark n params user) ≡ dataLi extended (length params) + 1 + length user
 data-size code extended dst mark n params user =
     let header : List ℕ = front code extended dst mark n ++ params in
     omega (arith, length-append header user, front-size code extended dst mark n params)
