@@ -8,3 +8,5 @@ pub mod Thin
 pub mod Says
 pub mod Determined
 pub mod WellFormed
+pub mod Laid
+pub mod Numbered
