@@ -1,14 +1,13 @@
 -- What a head says of the octets that it was read from.
-use Prim.Native.Nat.{ℕ, _+_, _/_, _%_, _≤_, _<_}
-use mathlib.Core.Path.{_≡_, refl, sym, ap, subst, _∙_}
+use Prim.Native.Nat.{ℕ, _/_, _%_, _≤_}
+use mathlib.Core.Path.{_≡_, refl, sym, subst}
 use mathlib.Core.List.{List}
 use mathlib.Core.Bool.{Bool, true, false, _&&_}
 use native.Mathlib.Omega.{arith}
-use borrow.Author.Tests.{ltb-false, eqb-true, ne-eqb}
+use borrow.Author.Tests.{ltb-false}
 use lib.Dec.{ltb, eqb}
 use lib.ListN.{length, getD}
 use Rattle.octets.specs.Text.{pick}
-use Rattle.names.specs.Numbers.{tCr, tCc, tDr, tDc, tDt, tEd, tAk, tEa, tRj, tEr}
 use Rattle.cotp.specs.Tpdu.{nameOf, numbered, fixedLen, noHead, headBy, headOf}
 use Rattle.cotp.specs.declared.tpdu.Head.{Head}
 use Rattle.fields.proofs.Picks.{pick-elim, pick-yes, pick-no}

@@ -1,15 +1,15 @@
 -- How many cells a TPDU's record has at most, so that an output with that many is never short.
-use Prim.Native.Nat.{ℕ, _+_, _*_, _-_, _/_, _%_, _≤_, _<_}
+use Prim.Native.Nat.{ℕ, _+_, _*_, _-_, _/_, _%_, _≤_}
 use mathlib.Core.Path.{_≡_, refl, sym, ap, subst, _∙_}
 use mathlib.Core.List.{List, [], _++_}
 use mathlib.Core.Bool.{Bool, true, false, _&&_, _||_}
 use native.Mathlib.Omega.{arith}
 use lib.Dec.{eqb, leb}
-use lib.ListN.{length, getD, take, drop, length-append}
-use Rattle.octets.specs.Read.{be16, be32}
+use lib.ListN.{length, getD, length-append}
+use Rattle.octets.specs.Read.{be16}
 use Rattle.names.specs.Numbers.{kCode, kName, kTpduSize, kValue, kValueHex, kTpdu, kDstRef, kSrcRef, kClass, kOptions, kReason, kReasonText, kRejectCause, kRejectCauseText, kRoa, kEot, kTpduSeq, kCredit, kExtended, kParams, kUserDataLen, kTsduSegment, tCr, tCc, tDr, tDc, tDt, tEd, tEa, tEr}
 use Rattle.codes.specs.Codes.{textIn, cotpParams, disconnectReasons, rejectCauses}
-use Rattle.cells.specs.Items.{Items, none, leaf, number, flag, octet, part, text, recordOf, inList, _⊕_, flat}
+use Rattle.cells.specs.Items.{Items, none, leaf, number, flag, octet, text, recordOf, inList, _⊕_, flat}
 use Rattle.cells.specs.Answer.{numberOf, answerTo}
 use Rattle.cells.specs.Walk.{stepOf}
 use Rattle.cells.specs.declared.entry.Entry.{Entry}

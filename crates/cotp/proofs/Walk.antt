@@ -1,19 +1,18 @@
 -- The walk over parameters: entries lie within the part, give at most three cells an octet, and make the member.
-use Prim.Native.Nat.{ℕ, _+_, _*_, _-_, _≤_, _<_}
-use mathlib.Core.Path.{_≡_, refl, sym, ap, subst, _∙_}
-use mathlib.Core.List.{List, [], _∷_, _++_}
+use Prim.Native.Nat.{ℕ, _+_, _-_, _≤_, _<_}
+use mathlib.Core.Path.{_≡_, refl, ap}
+use mathlib.Core.List.{List, [], _∷_}
 use mathlib.Core.Bool.{false}
 use native.Mathlib.Omega.{arith}
-use lib.ListN.{length, getD, length-append}
+use lib.ListN.{length, getD}
 use Rattle.names.specs.Numbers.{kParams}
-use Rattle.cells.specs.Items.{Items, none, group, inList, _⊕_, flat}
+use Rattle.cells.specs.Items.{Items, none, group, inList, _⊕_}
 use Rattle.cells.specs.Walk.{stepOf, itemsFrom, leftFrom}
-use Rattle.cells.specs.declared.entry.Entry.{Entry}
 use Rattle.cells.specs.declared.entry.Entry.the-variants.{Stop, Body}
 use Rattle.cells.proofs.Walks.{turn, done, over}
 use Rattle.fields.specs.Tlv.{tlvAt}
 use Rattle.fields.proofs.Tlvs.{whole-at}
-use Rattle.cotp.specs.Params.{param, paramStep, paramItems, paramLeft}
+use Rattle.cotp.specs.Params.{param, paramStep, paramItems}
 
 -- ---- the member: none of a part with no first entry
 pub no-part : (base : ℕ) (s : List ℕ) → length s ≡ 0 → inList kParams (paramItems base s) ≡ none

@@ -1,13 +1,13 @@
 -- The members of a TPDU are a good row at any depth and place, and the cells of a readable TPDU read back as its record.
-use Prim.Native.Nat.{ℕ, suc, _+_, _*_, _-_, _/_, _%_, _^_, _≤_, _<_}
-use mathlib.Core.Path.{_≡_, refl, sym, ap, subst, _∙_}
+use Prim.Native.Nat.{ℕ, suc, _+_, _*_, _-_, _/_, _^_, _≤_, _<_}
+use mathlib.Core.Path.{_≡_, refl, sym, ap, _∙_}
 use mathlib.Core.List.{List, [], _∷_}
 use mathlib.Core.Bool.{Bool, true, false, _&&_, _||_}
 use mathlib.Core.Option.{some}
 use native.Mathlib.Omega.{arith}
 use borrow.Author.Tests.{leb-true}
 use lib.Dec.{eqb, leb}
-use lib.ListN.{length, getD, take, drop, length-take, length-drop}
+use lib.ListN.{length, getD, drop, length-take, length-drop}
 use lib.Pow.{pow-mono}
 use Rattle.octets.proofs.Tests.{and-right}
 use Rattle.names.specs.Place.{same, placeFrom}
@@ -16,7 +16,7 @@ use Rattle.names.specs.Numbers.{lastText, texts-counted, kName, kReasonText, kR
 use Rattle.codes.specs.Codes.{Row, nameIn, textIn, cotpParams, disconnectReasons, rejectCauses}
 use Rattle.cells.specs.Items.{Items, none, _⊕_, inList}
 use Rattle.cells.specs.Read.{itemsOf}
-use Rattle.cells.specs.Good.{Key, GoodRow, Good}
+use Rattle.cells.specs.Good.{GoodRow}
 use Rattle.cells.specs.Walk.{stepOf}
 use Rattle.cells.specs.declared.entry.Entry.{Entry}
 use Rattle.cells.specs.declared.entry.Entry.the-variants.{Stop, Body}
@@ -29,7 +29,7 @@ use Rattle.fields.proofs.Picks.{pick-elim}
 use Rattle.fields.proofs.Tlvs.{Whole, tlv-whole}
 use Rattle.fields.proofs.Goods.{Octets, text-good, yes-good, take-small, drop-small}
 use Rattle.cotp.specs.Params.{twoOctets, paramValue, param, paramStep, paramItems}
-use Rattle.cotp.specs.Tpdu.{nameOf, headOf, seqOf, srcRef, seqMember, creditMembers, dataMembers, fixedMembers, paramPart, hasUser, partial, userMembers, membersOf, cotpCells}
+use Rattle.cotp.specs.Tpdu.{nameOf, headOf, srcRef, seqMember, creditMembers, dataMembers, fixedMembers, paramPart, hasUser, partial, userMembers, membersOf, cotpCells}
 use Rattle.cotp.specs.declared.tpdu.Head.{Head}
 use Rattle.cotp.proofs.Values.{size-range}
 use Rattle.cotp.proofs.Heads.{Said, said}
@@ -42,7 +42,7 @@ unfolding placeFrom
 place-low n k [] t h = omega arith
 place-low n k (x ∷ xs) t h = pick-elim (λ (p : ℕ). p ≤ n) (same x t) (λ e. omega arith) (λ e. place-low n (suc k) xs t (omega arith))
 
-text-low : (rows : List Row) (c : ℕ) → textIn rows [] c ≤ lastText
+pub text-low : (rows : List Row) (c : ℕ) → textIn rows [] c ≤ lastText
 unfolding textIn numberOf
 text-low rows c = place-low lastText 0 allTexts (nameIn rows [] c) (omega (arith, texts-counted))
 

@@ -2,13 +2,12 @@
 ghost use mathlib.Core.Path.{_≡_};
 ghost use mathlib.Core.Bool.{_&&_, true};
 ghost use Prim.Native.Nat.{_+_, _<_, _≤_, _^_};
-ghost use lib.Dec.{leb, eqb};
-ghost use lib.ListN.{length, getD};
+ghost use lib.Dec.{leb};
+ghost use lib.ListN.{length};
 ghost use Rattle.octets.specs.Emit.{Emits};
-ghost use Rattle.octets.specs.Read.{be16, be32};
 ghost use Rattle.octets.specs.Text.{pick};
-ghost use Rattle.names.specs.Numbers.{kParams, kTpduSize, kValue, kValueHex};
-ghost use Rattle.cells.specs.Items.{none, leaf, number, part, inList, flat};
+ghost use Rattle.names.specs.Numbers.{kParams, kValueHex};
+ghost use Rattle.cells.specs.Items.{none, leaf, part, inList, flat};
 ghost use Rattle.cotp.specs.Params.{twoOctets, paramValue, param, paramItems};
 use cells::emit::close_group;
 use cells::emit::open_list;

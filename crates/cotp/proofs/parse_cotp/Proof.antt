@@ -1,10 +1,6 @@
 use borrow.Author.Needs.{needs}
 use Rattle.cotp.proofs.parse_cotp.Statement.{statement}
 use Rattle.cotp.proofs.parse_cotp.Tie as tie
-use Rattle.cotp.proofs.parse_cotp.Reads as reads
-use Rattle.cotp.proofs.parse_cotp.Lts as lts
-use Rattle.cotp.proofs.record.put_record.Reads as put-record-reads
-use Rattle.cotp.proofs.tpdu.read.Reads as read-reads
 use Rattle.cells.proofs.Answers.{too-long, no-front}
 use Rattle.cotp.proofs.Says.{says-unreadable, says-once, says-short, says-whole}
 

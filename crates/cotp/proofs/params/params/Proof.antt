@@ -1,9 +1,5 @@
 use Rattle.cotp.proofs.params.params.Statement.{statement}
 use Rattle.cotp.proofs.params.params.Tie as tie
-use Rattle.cotp.proofs.params.params.Reads as reads
-use Rattle.cotp.proofs.params.params.Lts as lts
-use Rattle.cotp.proofs.params.put_param.Reads as put-param-reads
-use Rattle.fields.proofs.tlv.tlv_at.Reads as tlv-at-reads
 use Prim.Native.Nat.{_+_, _-_, _≤_}
 use mathlib.Core.Path.{_≡_, refl, sym, _∙_, ap}
 use mathlib.Core.List.{[], _++_}

@@ -1,14 +1,6 @@
 use borrow.Author.Needs.{needs}
 use Rattle.cotp.proofs.params.put_param.Statement.{statement}
 use Rattle.cotp.proofs.params.put_param.Tie as tie
-use Rattle.cotp.proofs.params.put_param.Reads as reads
-use Rattle.cotp.proofs.params.put_param.Lts as lts
-use Rattle.cells.proofs.emit.close_group.Reads as close-group-reads
-use Rattle.cells.proofs.emit.open_object.Reads as open-object-reads
-use Rattle.cells.proofs.emit.put_octet_leaf.Reads as put-octet-leaf-reads
-use Rattle.codes.proofs.cotp_param_name.Reads as cotp-param-name-reads
-use Rattle.cotp.proofs.params.put_value.Reads as put-value-reads
-use Rattle.fields.proofs.member.put_text_if.Reads as put-text-if-reads
 use mathlib.Core.List.{[]}
 use mathlib.Core.Bool.{true}
 use Rattle.names.specs.Numbers.{kCode, kName}

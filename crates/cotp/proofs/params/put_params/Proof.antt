@@ -1,12 +1,6 @@
 use borrow.Author.Needs.{needs}
 use Rattle.cotp.proofs.params.put_params.Statement.{statement}
 use Rattle.cotp.proofs.params.put_params.Tie as tie
-use Rattle.cotp.proofs.params.put_params.Reads as reads
-use Rattle.cotp.proofs.params.put_params.Lts as lts
-use Rattle.cells.proofs.emit.close_group.Reads as close-group-reads
-use Rattle.cells.proofs.emit.open_list.Reads as open-list-reads
-use Rattle.cotp.proofs.params.params.Reads as params-reads
-use Rattle.fields.proofs.tlv.tlv_at.Reads as tlv-at-reads
 use mathlib.Core.Path.{_∙_, sym}
 use mathlib.Core.Bool.{false}
 use Rattle.names.specs.Numbers.{kParams}

@@ -1,11 +1,6 @@
 use borrow.Author.Needs.{needs}
 use Rattle.cotp.proofs.params.put_size.Statement.{statement}
 use Rattle.cotp.proofs.params.put_size.Tie as tie
-use Rattle.cotp.proofs.params.put_size.Reads as reads
-use Rattle.cotp.proofs.params.put_size.Lts as lts
-use Rattle.cells.proofs.emit.put_number.Reads as put-number-reads
-use Rattle.cotp.proofs.params.put_octets.Reads as put-octets-reads
-use Rattle.cotp.proofs.params.size_of.Reads as size-of-reads
 use Rattle.cotp.proofs.Values.{row-as, is-size, other-size, no-size}
 
 -- src/params.rt:89:28

@@ -1,11 +1,6 @@
 use borrow.Author.Needs.{needs}
 use Rattle.cotp.proofs.params.put_timer.Statement.{statement}
 use Rattle.cotp.proofs.params.put_timer.Tie as tie
-use Rattle.cotp.proofs.params.put_timer.Reads as reads
-use Rattle.cotp.proofs.params.put_timer.Lts as lts
-use Rattle.cells.proofs.emit.put_number.Reads as put-number-reads
-use Rattle.cotp.proofs.params.put_octets.Reads as put-octets-reads
-use Rattle.octets.proofs.read.u32_of.Reads as u32-of-reads
 use Rattle.cotp.proofs.Values.{row-as, is-timer, no-timer}
 
 -- src/params.rt:148:24

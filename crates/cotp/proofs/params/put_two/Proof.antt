@@ -1,11 +1,6 @@
 use borrow.Author.Needs.{needs}
 use Rattle.cotp.proofs.params.put_two.Statement.{statement}
 use Rattle.cotp.proofs.params.put_two.Tie as tie
-use Rattle.cotp.proofs.params.put_two.Reads as reads
-use Rattle.cotp.proofs.params.put_two.Lts as lts
-use Rattle.cells.proofs.emit.put_number.Reads as put-number-reads
-use Rattle.cotp.proofs.params.put_octets.Reads as put-octets-reads
-use Rattle.octets.proofs.read.u16_of.Reads as u16-of-reads
 use Rattle.cotp.proofs.Values.{row-as, is-two, no-two}
 
 -- src/params.rt:112:57

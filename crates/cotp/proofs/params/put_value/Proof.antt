@@ -1,14 +1,6 @@
 use borrow.Author.Needs.{needs}
 use Rattle.cotp.proofs.params.put_value.Statement.{statement}
 use Rattle.cotp.proofs.params.put_value.Tie as tie
-use Rattle.cotp.proofs.params.put_value.Reads as reads
-use Rattle.cotp.proofs.params.put_value.Lts as lts
-use Rattle.cotp.proofs.params.put_octets.Reads as put-octets-reads
-use Rattle.cotp.proofs.params.put_size.Reads as put-size-reads
-use Rattle.cotp.proofs.params.put_timer.Reads as put-timer-reads
-use Rattle.cotp.proofs.params.put_two.Reads as put-two-reads
-use Rattle.cotp.proofs.params.put_version.Reads as put-version-reads
-use Rattle.cotp.proofs.params.two_octets.Reads as two-octets-reads
 use mathlib.Core.Path.{sym, _∙_}
 use Rattle.cotp.proofs.Values.{row-as, no-number}
 

@@ -1,10 +1,6 @@
 use borrow.Author.Needs.{needs}
 use Rattle.cotp.proofs.params.put_version.Statement.{statement}
 use Rattle.cotp.proofs.params.put_version.Tie as tie
-use Rattle.cotp.proofs.params.put_version.Reads as reads
-use Rattle.cotp.proofs.params.put_version.Lts as lts
-use Rattle.cells.proofs.emit.put_number.Reads as put-number-reads
-use Rattle.cotp.proofs.params.put_octets.Reads as put-octets-reads
 use Rattle.cotp.proofs.Values.{row-as, is-version, no-version}
 use native.Mathlib.Omega.{arith}
 

@@ -1,7 +1,5 @@
 use Rattle.cotp.proofs.params.size_of.Statement.{statement}
 use Rattle.cotp.proofs.params.size_of.Tie as tie
-use Rattle.cotp.proofs.params.size_of.Reads as reads
-use Rattle.cotp.proofs.params.size_of.Lts as lts
 use mathlib.Core.Path.{refl}
 use Rattle.cotp.proofs.Values.{size-none}
 

@@ -1,7 +1,5 @@
 use Rattle.cotp.proofs.params.two_octets.Statement.{statement}
 use Rattle.cotp.proofs.params.two_octets.Tie as tie
-use Rattle.cotp.proofs.params.two_octets.Reads as reads
-use Rattle.cotp.proofs.params.two_octets.Lts as lts
 use borrow.Author.Tests.{ne-eqb}
 use mathlib.Core.Path.{refl}
 

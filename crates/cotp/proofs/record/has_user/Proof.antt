@@ -1,8 +1,6 @@
 use borrow.Author.Needs.{needs}
 use Rattle.cotp.proofs.record.has_user.Statement.{statement}
 use Rattle.cotp.proofs.record.has_user.Tie as tie
-use Rattle.cotp.proofs.record.has_user.Reads as reads
-use Rattle.cotp.proofs.record.has_user.Lts as lts
 use Rattle.cotp.proofs.ByName.{user-dt, user-ed, no-user}
 
 -- src/record.rt:176:15

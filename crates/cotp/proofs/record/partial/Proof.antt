@@ -1,8 +1,5 @@
 use Rattle.cotp.proofs.record.partial.Statement.{statement}
 use Rattle.cotp.proofs.record.partial.Tie as tie
-use Rattle.cotp.proofs.record.partial.Reads as reads
-use Rattle.cotp.proofs.record.partial.Lts as lts
-use Rattle.cotp.proofs.tpdu.seq.Reads as seq-reads
 use native.Mathlib.Omega.{arith}
 use Rattle.cotp.proofs.Heads.{said, any-format}
 use Rattle.cotp.proofs.ByName.{at-dt, partial-by, not-partial}

@@ -1,10 +1,6 @@
 use borrow.Author.Needs.{needs}
 use Rattle.cotp.proofs.record.put_asked_data.Statement.{statement}
 use Rattle.cotp.proofs.record.put_asked_data.Tie as tie
-use Rattle.cotp.proofs.record.put_asked_data.Reads as reads
-use Rattle.cotp.proofs.record.put_asked_data.Lts as lts
-use Rattle.cells.proofs.emit.put_flag.Reads as put-flag-reads
-use Rattle.cotp.proofs.record.put_data.Reads as put-data-reads
 use native.Mathlib.Omega.{arith}
 use Rattle.cotp.proofs.Heads.{any-format}
 use Rattle.names.specs.Numbers.{kRoa}

@@ -1,10 +1,6 @@
 use borrow.Author.Needs.{needs}
 use Rattle.cotp.proofs.record.put_connect.Statement.{statement}
 use Rattle.cotp.proofs.record.put_connect.Tie as tie
-use Rattle.cotp.proofs.record.put_connect.Reads as reads
-use Rattle.cotp.proofs.record.put_connect.Lts as lts
-use Rattle.cells.proofs.emit.put_number.Reads as put-number-reads
-use Rattle.cotp.proofs.record.put_src.Reads as put-src-reads
 use native.Mathlib.Omega.{arith}
 use Rattle.names.specs.Numbers.{kClass, kOptions}
 use Rattle.cells.specs.Items.{Items, none, leaf, number, _⊕_}

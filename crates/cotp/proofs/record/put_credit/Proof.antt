@@ -1,11 +1,6 @@
 use borrow.Author.Needs.{needs}
 use Rattle.cotp.proofs.record.put_credit.Statement.{statement}
 use Rattle.cotp.proofs.record.put_credit.Tie as tie
-use Rattle.cotp.proofs.record.put_credit.Reads as reads
-use Rattle.cotp.proofs.record.put_credit.Lts as lts
-use Rattle.cells.proofs.emit.put_number.Reads as put-number-reads
-use Rattle.cotp.proofs.record.put_seq.Reads as put-seq-reads
-use Rattle.octets.proofs.read.u16_of.Reads as u16-of-reads
 use native.Mathlib.Omega.{arith}
 use Rattle.cotp.proofs.Heads.{long-format, normal-format}
 use Rattle.names.specs.Numbers.{kCredit}

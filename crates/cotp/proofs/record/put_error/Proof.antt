@@ -1,11 +1,6 @@
 use borrow.Author.Needs.{needs}
 use Rattle.cotp.proofs.record.put_error.Statement.{statement}
 use Rattle.cotp.proofs.record.put_error.Tie as tie
-use Rattle.cotp.proofs.record.put_error.Reads as reads
-use Rattle.cotp.proofs.record.put_error.Lts as lts
-use Rattle.cells.proofs.emit.put_number.Reads as put-number-reads
-use Rattle.codes.proofs.cotp_er_reject_cause.Reads as cotp-er-reject-cause-reads
-use Rattle.fields.proofs.member.put_text_if.Reads as put-text-if-reads
 use native.Mathlib.Omega.{arith}
 use Rattle.names.specs.Numbers.{kRejectCause, kRejectCauseText}
 use Rattle.cells.specs.Items.{Items, none, leaf, number}

@@ -1,16 +1,6 @@
 use borrow.Author.Needs.{needs}
 use Rattle.cotp.proofs.record.put_fixed.Statement.{statement}
 use Rattle.cotp.proofs.record.put_fixed.Tie as tie
-use Rattle.cotp.proofs.record.put_fixed.Reads as reads
-use Rattle.cotp.proofs.record.put_fixed.Lts as lts
-use Rattle.cotp.proofs.record.put_asked_data.Reads as put-asked-data-reads
-use Rattle.cotp.proofs.record.put_connect.Reads as put-connect-reads
-use Rattle.cotp.proofs.record.put_credit.Reads as put-credit-reads
-use Rattle.cotp.proofs.record.put_data.Reads as put-data-reads
-use Rattle.cotp.proofs.record.put_error.Reads as put-error-reads
-use Rattle.cotp.proofs.record.put_request.Reads as put-request-reads
-use Rattle.cotp.proofs.record.put_seq.Reads as put-seq-reads
-use Rattle.cotp.proofs.record.put_src.Reads as put-src-reads
 use Rattle.cotp.proofs.Heads.{said}
 use Rattle.cotp.proofs.ByName.{at-cr, at-cc, at-dr, at-dc, at-er, at-dt, at-ed, at-ea, at-rest, members-at, members-rest}
 use Rattle.cotp.specs.Tpdu.{fixedMembers}

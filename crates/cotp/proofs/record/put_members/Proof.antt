@@ -1,15 +1,6 @@
 use borrow.Author.Needs.{needs}
 use Rattle.cotp.proofs.record.put_members.Statement.{statement}
 use Rattle.cotp.proofs.record.put_members.Tie as tie
-use Rattle.cotp.proofs.record.put_members.Reads as reads
-use Rattle.cotp.proofs.record.put_members.Lts as lts
-use Rattle.cells.proofs.emit.put_number.Reads as put-number-reads
-use Rattle.cells.proofs.emit.put_text_number.Reads as put-text-number-reads
-use Rattle.cotp.proofs.record.put_fixed.Reads as put-fixed-reads
-use Rattle.cotp.proofs.record.put_user.Reads as put-user-reads
-use Rattle.cotp.proofs.record.put_variable.Reads as put-variable-reads
-use Rattle.fields.proofs.member.put_yes_if.Reads as put-yes-if-reads
-use Rattle.octets.proofs.read.u16_of.Reads as u16-of-reads
 use native.Mathlib.Omega.{arith}
 use Rattle.cotp.proofs.Heads.{said}
 use lib.ListN.{getD}

@@ -1,11 +1,6 @@
 use borrow.Author.Needs.{needs}
 use Rattle.cotp.proofs.record.put_record.Statement.{statement}
 use Rattle.cotp.proofs.record.put_record.Tie as tie
-use Rattle.cotp.proofs.record.put_record.Reads as reads
-use Rattle.cotp.proofs.record.put_record.Lts as lts
-use Rattle.cells.proofs.emit.close_group.Reads as close-group-reads
-use Rattle.cells.proofs.emit.open_object.Reads as open-object-reads
-use Rattle.cotp.proofs.record.put_members.Reads as put-members-reads
 use mathlib.Core.Bool.{true}
 use Rattle.cells.proofs.Rows.{around}
 use Rattle.cotp.specs.Tpdu.{membersOf}

@@ -1,12 +1,6 @@
 use borrow.Author.Needs.{needs}
 use Rattle.cotp.proofs.record.put_request.Statement.{statement}
 use Rattle.cotp.proofs.record.put_request.Tie as tie
-use Rattle.cotp.proofs.record.put_request.Reads as reads
-use Rattle.cotp.proofs.record.put_request.Lts as lts
-use Rattle.cells.proofs.emit.put_number.Reads as put-number-reads
-use Rattle.codes.proofs.cotp_dr_reason.Reads as cotp-dr-reason-reads
-use Rattle.cotp.proofs.record.put_src.Reads as put-src-reads
-use Rattle.fields.proofs.member.put_text_if.Reads as put-text-if-reads
 use native.Mathlib.Omega.{arith}
 use Rattle.names.specs.Numbers.{kReason, kReasonText}
 use Rattle.cells.specs.Items.{Items, none, leaf, number, _⊕_}

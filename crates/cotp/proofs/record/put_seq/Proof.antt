@@ -1,10 +1,6 @@
 use borrow.Author.Needs.{needs}
 use Rattle.cotp.proofs.record.put_seq.Statement.{statement}
 use Rattle.cotp.proofs.record.put_seq.Tie as tie
-use Rattle.cotp.proofs.record.put_seq.Reads as reads
-use Rattle.cotp.proofs.record.put_seq.Lts as lts
-use Rattle.cells.proofs.emit.put_number.Reads as put-number-reads
-use Rattle.cotp.proofs.tpdu.seq.Reads as seq-reads
 
 -- src/record.rt:64:42
 seq-requires : tie.Need-seq-requires

@@ -1,10 +1,6 @@
 use borrow.Author.Needs.{needs}
 use Rattle.cotp.proofs.record.put_src.Statement.{statement}
 use Rattle.cotp.proofs.record.put_src.Tie as tie
-use Rattle.cotp.proofs.record.put_src.Reads as reads
-use Rattle.cotp.proofs.record.put_src.Lts as lts
-use Rattle.cells.proofs.emit.put_number.Reads as put-number-reads
-use Rattle.octets.proofs.read.u16_of.Reads as u16-of-reads
 
 -- src/record.rt:57:48
 shared-slice-read-u16-of : tie.Need-shared-slice-read-u16-of

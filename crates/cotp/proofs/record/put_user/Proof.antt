@@ -1,12 +1,6 @@
 use borrow.Author.Needs.{needs}
 use Rattle.cotp.proofs.record.put_user.Statement.{statement}
 use Rattle.cotp.proofs.record.put_user.Tie as tie
-use Rattle.cotp.proofs.record.put_user.Reads as reads
-use Rattle.cotp.proofs.record.put_user.Lts as lts
-use Rattle.cells.proofs.emit.put_number.Reads as put-number-reads
-use Rattle.cotp.proofs.record.has_user.Reads as has-user-reads
-use Rattle.cotp.proofs.record.partial.Reads as partial-reads
-use Rattle.fields.proofs.member.put_yes_if.Reads as put-yes-if-reads
 use native.Mathlib.Omega.{arith}
 use Rattle.cotp.proofs.Heads.{said}
 use Rattle.cotp.proofs.ByName.{user-within}
@@ -18,7 +12,7 @@ use Rattle.octets.proofs.Emits.{nothing}
 use Rattle.cells.specs.Items.{Items, none, leaf, number, _⊕_}
 use Rattle.cells.proofs.Rows.{then-row, flat-none}
 use Rattle.fields.specs.Member.{optYes}
-use Rattle.fields.proofs.Picks.{pick-yes, pick-no}
+use Rattle.fields.proofs.Picks.{pick-yes}
 use Rattle.cotp.specs.Tpdu.{partial}
 use Rattle.cotp.proofs.Values.{row-as}
 

@@ -1,9 +1,6 @@
 use borrow.Author.Needs.{needs}
 use Rattle.cotp.proofs.record.put_variable.Statement.{statement}
 use Rattle.cotp.proofs.record.put_variable.Tie as tie
-use Rattle.cotp.proofs.record.put_variable.Reads as reads
-use Rattle.cotp.proofs.record.put_variable.Lts as lts
-use Rattle.cotp.proofs.params.put_params.Reads as put-params-reads
 use native.Mathlib.Omega.{arith}
 use Rattle.cotp.proofs.Heads.{said}
 use Rattle.cotp.proofs.ByName.{part-past, part-empty, part-is}

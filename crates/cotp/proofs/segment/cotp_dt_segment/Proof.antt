@@ -1,11 +1,6 @@
 use borrow.Author.Needs.{needs}
 use Rattle.cotp.proofs.segment.cotp_dt_segment.Statement.{statement}
 use Rattle.cotp.proofs.segment.cotp_dt_segment.Tie as tie
-use Rattle.cotp.proofs.segment.cotp_dt_segment.Reads as reads
-use Rattle.cotp.proofs.segment.cotp_dt_segment.Lts as lts
-use Rattle.cotp.proofs.segment.piece.Reads as piece-reads
-use Rattle.cotp.proofs.tpdu.by_format.Reads as by-format-reads
-use Rattle.octets.proofs.read.wide.Reads as wide-reads
 use Rattle.cotp.proofs.Segments.{none-at-all, no-end, no-count, all-ones, no-data, too-few, is-piece}
 
 -- src/segment.rt:37:9

@@ -1,9 +1,6 @@
 use borrow.Author.Needs.{needs}
 use Rattle.cotp.proofs.segment.cotp_user.Statement.{statement}
 use Rattle.cotp.proofs.segment.cotp_user.Tie as tie
-use Rattle.cotp.proofs.segment.cotp_user.Reads as reads
-use Rattle.cotp.proofs.segment.cotp_user.Lts as lts
-use Rattle.cotp.proofs.segment.user_at.Reads as user-at-reads
 use mathlib.Core.Path.{refl, ap, _∙_}
 use Prim.Native.Nat.{ℕ, _+_}
 use lib.ListN.{drop}

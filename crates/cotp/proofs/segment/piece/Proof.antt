@@ -1,10 +1,6 @@
 use borrow.Author.Needs.{needs}
 use Rattle.cotp.proofs.segment.piece.Statement.{statement}
 use Rattle.cotp.proofs.segment.piece.Tie as tie
-use Rattle.cotp.proofs.segment.piece.Reads as reads
-use Rattle.cotp.proofs.segment.piece.Lts as lts
-use Rattle.cotp.proofs.tpdu.seq.Reads as seq-reads
-use Rattle.octets.proofs.read.u16_of.Reads as u16-of-reads
 use native.Mathlib.Omega.{arith}
 use Rattle.cotp.proofs.Heads.{any-format}
 use lib.ListN.{length}

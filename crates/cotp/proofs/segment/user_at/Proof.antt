@@ -1,8 +1,6 @@
 use borrow.Author.Needs.{needs}
 use Rattle.cotp.proofs.segment.user_at.Statement.{statement}
 use Rattle.cotp.proofs.segment.user_at.Tie as tie
-use Rattle.cotp.proofs.segment.user_at.Reads as reads
-use Rattle.cotp.proofs.segment.user_at.Lts as lts
 use native.Mathlib.Omega.{arith}
 
 -- src/segment.rt:65:28

@@ -1,9 +1,6 @@
 use borrow.Author.Needs.{needs}
 use Rattle.cotp.proofs.tpdu.fixed_len.Statement.{statement}
 use Rattle.cotp.proofs.tpdu.fixed_len.Tie as tie
-use Rattle.cotp.proofs.tpdu.fixed_len.Reads as reads
-use Rattle.cotp.proofs.tpdu.fixed_len.Lts as lts
-use Rattle.cotp.proofs.tpdu.by_format.Reads as by-format-reads
 use borrow.Author.Tests.{ne-eqb}
 use mathlib.Core.Path.{refl}
 use Rattle.cotp.specs.Tpdu.{fixedLen}

@@ -1,10 +1,6 @@
 use borrow.Author.Needs.{needs}
 use Rattle.cotp.proofs.tpdu.head_by.Statement.{statement}
 use Rattle.cotp.proofs.tpdu.head_by.Tie as tie
-use Rattle.cotp.proofs.tpdu.head_by.Reads as reads
-use Rattle.cotp.proofs.tpdu.head_by.Lts as lts
-use Rattle.cotp.proofs.tpdu.fixed_len.Reads as fixed-len-reads
-use Rattle.cotp.proofs.tpdu.unreadable.Reads as unreadable-reads
 use borrow.Author.Tests.{lt-ltb, le-ltb, eq-eqb, ne-eqb}
 
 -- src/tpdu.rt:119:9

@@ -1,9 +1,6 @@
 use borrow.Author.Needs.{needs}
 use Rattle.cotp.proofs.tpdu.is_extended.Statement.{statement}
 use Rattle.cotp.proofs.tpdu.is_extended.Tie as tie
-use Rattle.cotp.proofs.tpdu.is_extended.Reads as reads
-use Rattle.cotp.proofs.tpdu.is_extended.Lts as lts
-use Rattle.cotp.proofs.tpdu.numbered.Reads as numbered-reads
 use mathlib.Core.Path.{sym, _∙_}
 
 -- src/tpdu.rt:72:8

@@ -1,7 +1,5 @@
 use Rattle.cotp.proofs.tpdu.name_of.Statement.{statement}
 use Rattle.cotp.proofs.tpdu.name_of.Tie as tie
-use Rattle.cotp.proofs.tpdu.name_of.Reads as reads
-use Rattle.cotp.proofs.tpdu.name_of.Lts as lts
 use borrow.Author.Tests.{ne-eqb}
 use mathlib.Core.Path.{refl}
 use Rattle.cotp.specs.Tpdu.{nameOf}

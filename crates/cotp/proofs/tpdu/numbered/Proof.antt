@@ -1,7 +1,5 @@
 use Rattle.cotp.proofs.tpdu.numbered.Statement.{statement}
 use Rattle.cotp.proofs.tpdu.numbered.Tie as tie
-use Rattle.cotp.proofs.tpdu.numbered.Reads as reads
-use Rattle.cotp.proofs.tpdu.numbered.Lts as lts
 use borrow.Author.Tests.{eq-eqb, ne-eqb}
 use mathlib.Core.Path.{refl}
 

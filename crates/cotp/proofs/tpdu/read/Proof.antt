@@ -1,13 +1,6 @@
 use borrow.Author.Needs.{needs}
 use Rattle.cotp.proofs.tpdu.read.Statement.{statement}
 use Rattle.cotp.proofs.tpdu.read.Tie as tie
-use Rattle.cotp.proofs.tpdu.read.Reads as reads
-use Rattle.cotp.proofs.tpdu.read.Lts as lts
-use Rattle.cotp.proofs.tpdu.head_by.Reads as head-by-reads
-use Rattle.cotp.proofs.tpdu.is_extended.Reads as is-extended-reads
-use Rattle.cotp.proofs.tpdu.name_of.Reads as name-of-reads
-use Rattle.cotp.proofs.tpdu.unreadable.Reads as unreadable-reads
-use Rattle.octets.proofs.read.wide.Reads as wide-reads
 use borrow.Author.Tests.{lt-ltb, le-ltb, eq-eqb, ne-eqb}
 use Rattle.cotp.specs.Tpdu.{headOf}
 

@@ -1,9 +1,6 @@
 use borrow.Author.Needs.{needs}
 use Rattle.cotp.proofs.tpdu.seq.Statement.{statement}
 use Rattle.cotp.proofs.tpdu.seq.Tie as tie
-use Rattle.cotp.proofs.tpdu.seq.Reads as reads
-use Rattle.cotp.proofs.tpdu.seq.Lts as lts
-use Rattle.octets.proofs.read.u32_of.Reads as u32-of-reads
 use native.Mathlib.Omega.{arith}
 use lib.ListN.{length}
 use Rattle.cotp.proofs.Heads.{long-format, normal-format}

@@ -1,9 +1,6 @@
 use borrow.Author.Needs.{needs}
 use Rattle.fields.proofs.member.put_text_if.Statement.{statement}
 use Rattle.fields.proofs.member.put_text_if.Tie as tie
-use Rattle.fields.proofs.member.put_text_if.Reads as reads
-use Rattle.fields.proofs.member.put_text_if.Lts as lts
-use Rattle.cells.proofs.emit.put_text_number.Reads as put-text-number-reads
 use borrow.Author.Tests.{eq-eqb, ne-eqb}
 use Rattle.octets.proofs.Emits.{nothing}
 use Rattle.cells.proofs.Rows.{flat-none}

@@ -1,9 +1,6 @@
 use borrow.Author.Needs.{needs}
 use Rattle.fields.proofs.member.put_yes_if.Statement.{statement}
 use Rattle.fields.proofs.member.put_yes_if.Tie as tie
-use Rattle.fields.proofs.member.put_yes_if.Reads as reads
-use Rattle.fields.proofs.member.put_yes_if.Lts as lts
-use Rattle.cells.proofs.emit.put_flag.Reads as put-flag-reads
 use Rattle.octets.proofs.Emits.{nothing}
 use Rattle.cells.proofs.Rows.{flat-none}
 

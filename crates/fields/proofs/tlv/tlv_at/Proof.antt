@@ -1,9 +1,6 @@
 use borrow.Author.Needs.{needs}
 use Rattle.fields.proofs.tlv.tlv_at.Statement.{statement}
 use Rattle.fields.proofs.tlv.tlv_at.Tie as tie
-use Rattle.fields.proofs.tlv.tlv_at.Reads as reads
-use Rattle.fields.proofs.tlv.tlv_at.Lts as lts
-use Rattle.octets.proofs.read.wide.Reads as wide-reads
 use borrow.Author.Tests.{le-leb, lt-leb}
 use Rattle.fields.specs.Tlv.{tlvAt}
 
