@@ -5,16 +5,22 @@ use Prim.Native.Nat.{ℕ}
 use Rattle.names.specs.Numbers.{kLcn, kKind, kMore, kCause, tRestartRequest}
 use Rattle.cells.specs.Items.{Items, none, leaf, number, flag, text, recordOf, flat}
 use Rattle.cells.specs.Answer.{numberOf}
+use lib.ListN.{replicate}
 use Rattle.x25.specs.Packet.{x25Cells, x25Answer}
+use Rattle.cotp.specs.Segment.{segmentOf}
+use Rattle.cotp.specs.declared.segment.Segment.the-variants.{Absent}
 
--- an X.25 packet has the cells of the record with these members; the answer on one is this number, whatever room is lent
+-- an X.25 packet has the cells of the record with these members; the answer on one is this number, whatever room is lent; octets
+-- are no piece for a COTP push
 pub data Case : Type 0 where
   recorded : List ℕ → Items → Case
   answered : List ℕ → ℕ → Case
+  noPiece : List ℕ → Case
 
 abbrev pub Holds : Case → Type 0
 Holds (recorded s kids) = x25Cells s ≡ flat 0 (recordOf kids)
 Holds (answered s n) = (room : ℕ) → numberOf (x25Answer s room) ≡ n
+Holds (noPiece s) = segmentOf s ≡ Absent
 
 abbrev pub Every : List Case → Type 0
 Every [] = Unit
@@ -30,5 +36,12 @@ restart =
 abbrev pub twoOctets : Case
 twoOctets = answered (0x10 ∷ 0x00 ∷ []) 15
 
+-- COTP F0 piece with LI 0, and with LI 255 and as many octets
+abbrev pub noLength : Case
+noLength = noPiece (0x00 ∷ 0xF0 ∷ 0x00 ∷ 0x01 ∷ 0x80 ∷ 0x41 ∷ [])
+
+abbrev pub longest : Case
+longest = noPiece (0xFF ∷ 0xF0 ∷ 0x00 ∷ 0x01 ∷ 0x80 ∷ replicate 252 0x41)
+
 abbrev pub cases : List Case
-cases = restart ∷ twoOctets ∷ []
+cases = restart ∷ twoOctets ∷ noLength ∷ longest ∷ []
