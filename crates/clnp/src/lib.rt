@@ -1,0 +1,2 @@
+// CLNP PDUs as item records.
+pub mod segment;

@@ -1,0 +1,3 @@
+pub mod Params
+pub mod Tpdu
+pub mod Segment

@@ -1,0 +1,3 @@
+// COTP TPDUs as item records.
+pub mod segment;
+pub mod tpdu;
