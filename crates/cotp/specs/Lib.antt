@@ -1,3 +1,4 @@
 pub mod Params
 pub mod Tpdu
 pub mod Segment
+pub mod Layout

@@ -1,0 +1,10 @@
+pub mod Values
+pub mod Heads
+pub mod Walk
+pub mod ByName
+pub mod Segments
+pub mod Cells
+pub mod Thin
+pub mod Says
+pub mod Determined
+pub mod WellFormed

@@ -1,0 +1,4 @@
+pub mod Picks
+pub mod Tlvs
+pub mod Sizes
+pub mod Goods
