@@ -1,2 +1,3 @@
 // CLNP PDUs as item records.
 pub mod segment;
+pub mod tag;
