@@ -1,2 +1,4 @@
 pub mod Headers
 pub mod Tags
+pub mod Labels
+pub mod Options

@@ -1,3 +1,5 @@
 // CLNP PDUs as item records.
+pub mod label;
+pub mod option;
 pub mod segment;
 pub mod tag;
