@@ -35,14 +35,7 @@ fn put_octets(out: &mut [u64], at: usize, base: usize, i: usize, n: usize) -> us
     put_hex_part(out, at, 3, VALUE_HEX, base + i, n)
 }
 
-fn put_priority(
-    out: &mut [u64],
-    at: usize,
-    base: usize,
-    s: &[u8],
-    i: usize,
-    n: usize,
-) -> usize
+fn put_priority(out: &mut [u64], at: usize, base: usize, s: &[u8], i: usize, n: usize) -> usize
     requires { ⌜ (i + n ≤ length (now s)) × (base + length (now s) < 65536) ⌝ }
     ensures { λ r. ⌜ Emits (now (out .entry)) at (flat 3 (optionValue base (now (s .entry)) 0xCD i n)) (now (out .exit)) r ⌝ }
 {
@@ -52,14 +45,7 @@ fn put_priority(
     put_octets(out, at, base, i, n)
 }
 
-fn put_reason(
-    out: &mut [u64],
-    at: usize,
-    base: usize,
-    s: &[u8],
-    i: usize,
-    n: usize,
-) -> usize
+fn put_reason(out: &mut [u64], at: usize, base: usize, s: &[u8], i: usize, n: usize) -> usize
     requires { ⌜ (i + n ≤ length (now s)) × (base + length (now s) < 65536) ⌝ }
     ensures { λ r. ⌜ Emits (now (out .entry)) at (flat 3 (optionValue base (now (s .entry)) 0xC1 i n)) (now (out .exit)) r ⌝ }
 {
@@ -70,14 +56,7 @@ fn put_reason(
 }
 
 // A label of the globally unique format stands behind the first octet.
-fn put_security(
-    out: &mut [u64],
-    at: usize,
-    base: usize,
-    s: &[u8],
-    i: usize,
-    n: usize,
-) -> usize
+fn put_security(out: &mut [u64], at: usize, base: usize, s: &[u8], i: usize, n: usize) -> usize
     requires { ⌜ (i + n ≤ length (now s)) × (base + length (now s) < 65536) ⌝ }
     ensures { λ r. ⌜ Emits (now (out .entry)) at (flat 3 (optionValue base (now (s .entry)) 0xC5 i n)) (now (out .exit)) r ⌝ }
 {
@@ -94,15 +73,7 @@ fn put_security(
 }
 
 // The value of n octets at place i of a part that stands at place base of the input.
-fn put_value(
-    out: &mut [u64],
-    at: usize,
-    base: usize,
-    s: &[u8],
-    t: u8,
-    i: usize,
-    n: usize,
-) -> usize
+fn put_value(out: &mut [u64], at: usize, base: usize, s: &[u8], t: u8, i: usize, n: usize) -> usize
     requires { ⌜ (i + n ≤ length (now s)) × (base + length (now s) < 65536) ⌝ }
     ensures { λ r. ⌜ Emits (now (out .entry)) at (flat 3 (optionValue base (now (s .entry)) t i n)) (now (out .exit)) r ⌝ }
 {
@@ -118,15 +89,7 @@ fn put_value(
     put_octets(out, at, base, i, n)
 }
 
-fn put_option(
-    out: &mut [u64],
-    at: usize,
-    base: usize,
-    s: &[u8],
-    t: u8,
-    i: usize,
-    n: usize,
-) -> usize
+fn put_option(out: &mut [u64], at: usize, base: usize, s: &[u8], t: u8, i: usize, n: usize) -> usize
     requires { ⌜ (i + n ≤ length (now s)) × (base + length (now s) < 65536) ⌝ }
     ensures { λ r. ⌜ Emits (now (out .entry)) at (flat 2 (option base (now (s .entry)) t i n)) (now (out .exit)) r ⌝ }
 {

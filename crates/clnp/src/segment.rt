@@ -10,12 +10,23 @@ use octets::read::wide;
 
 pub enum Segment {
     Absent,
-    Fields { id: u16, offset: u16, total: u16, more: u8, header: usize },
+    Fields {
+        id: u16,
+        offset: u16,
+        total: u16,
+        more: u8,
+        header: usize,
+    },
 }
 
 pub enum Addresses {
     Absent,
-    Two { dst: usize, dstlen: usize, src: usize, srclen: usize },
+    Two {
+        dst: usize,
+        dstlen: usize,
+        src: usize,
+        srclen: usize,
+    },
 }
 
 pub enum Tpdu {

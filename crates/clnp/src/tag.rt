@@ -23,9 +23,9 @@ use codes::atn_traffic_type_name;
 use codes::atsc_class_name;
 use fields::member::put_text_if;
 use names::key::CATEGORY;
-use names::key::CLASSES;
 use names::key::CLASS_ID;
 use names::key::CLASS_NAME;
+use names::key::CLASSES;
 use names::key::KIND;
 use names::key::PERMITTED_TRAFFIC_TYPES;
 use names::key::ROUTE_POLICY;
@@ -140,14 +140,7 @@ fn put_octets(out: &mut [u64], at: usize, base: usize, i: usize, n: usize) -> us
     put_hex_part(out, at, 6, VALUE_HEX, base + i, n)
 }
 
-fn put_security(
-    out: &mut [u64],
-    at: usize,
-    base: usize,
-    s: &[u8],
-    i: usize,
-    n: usize,
-) -> usize
+fn put_security(out: &mut [u64], at: usize, base: usize, s: &[u8], i: usize, n: usize) -> usize
     requires { ⌜ (i + n ≤ length (now s)) × (base + length (now s) < 65536) ⌝ }
     ensures { λ r. ⌜ Emits (now (out .entry)) at (flat 6 (tagMembers base (now (s .entry)) 0x03 i n)) (now (out .exit)) r ⌝ }
 {
@@ -160,14 +153,7 @@ fn put_security(
     put_octets(out, at, base, i, n)
 }
 
-fn put_subnet(
-    out: &mut [u64],
-    at: usize,
-    base: usize,
-    s: &[u8],
-    i: usize,
-    n: usize,
-) -> usize
+fn put_subnet(out: &mut [u64], at: usize, base: usize, s: &[u8], i: usize, n: usize) -> usize
     requires { ⌜ (i + n ≤ length (now s)) × (base + length (now s) < 65536) ⌝ }
     ensures { λ r. ⌜ Emits (now (out .entry)) at (flat 6 (tagMembers base (now (s .entry)) 0x05 i n)) (now (out .exit)) r ⌝ }
 {
@@ -182,14 +168,7 @@ fn put_subnet(
     put_octets(out, at, base, i, n)
 }
 
-fn put_classes(
-    out: &mut [u64],
-    at: usize,
-    base: usize,
-    s: &[u8],
-    i: usize,
-    n: usize,
-) -> usize
+fn put_classes(out: &mut [u64], at: usize, base: usize, s: &[u8], i: usize, n: usize) -> usize
     requires { ⌜ (i + n ≤ length (now s)) × (base + length (now s) < 65536) ⌝ }
     ensures { λ r. ⌜ Emits (now (out .entry)) at (flat 6 (tagMembers base (now (s .entry)) 0x06 i n)) (now (out .exit)) r ⌝ }
 {
@@ -201,14 +180,7 @@ fn put_classes(
     put_octets(out, at, base, i, n)
 }
 
-fn put_traffic(
-    out: &mut [u64],
-    at: usize,
-    base: usize,
-    s: &[u8],
-    i: usize,
-    n: usize,
-) -> usize
+fn put_traffic(out: &mut [u64], at: usize, base: usize, s: &[u8], i: usize, n: usize) -> usize
     requires { ⌜ (i + n ≤ length (now s)) × (base + length (now s) < 65536) ⌝ }
     ensures { λ r. ⌜ Emits (now (out .entry)) at (flat 6 (tagMembers base (now (s .entry)) 0x0F i n)) (now (out .exit)) r ⌝ }
 {
@@ -253,15 +225,7 @@ fn put_by_name(
     put_octets(out, at, base, i, n)
 }
 
-fn put_tag(
-    out: &mut [u64],
-    at: usize,
-    base: usize,
-    s: &[u8],
-    name: u8,
-    i: usize,
-    n: usize,
-) -> usize
+fn put_tag(out: &mut [u64], at: usize, base: usize, s: &[u8], name: u8, i: usize, n: usize) -> usize
     requires { ⌜ (i + n ≤ length (now s)) × (base + length (now s) < 65536) ⌝ }
     ensures { λ r. ⌜ Emits (now (out .entry)) at (flat 5 (tag base (now (s .entry)) name i n)) (now (out .exit)) r ⌝ }
 {
