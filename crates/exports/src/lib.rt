@@ -8,6 +8,8 @@ ghost use Rattle.cotp.specs.Tpdu.{cotpCells};
 ghost use Rattle.cotp.specs.Segment.{segmentOf};
 ghost use Rattle.print.specs.Print.{printed};
 ghost use Rattle.x25.specs.Packet.{x25Cells, x25Answer, payloadFor};
+ghost use Rattle.clnp.specs.Pdu.{clnpCells};
+ghost use Rattle.clnp.specs.Segment.{tpduOf, tpduAnswer, tpduPlace};
 ghost use Rattle.exports.specs.Told.{Told, isPiece, pieceNumbers};
 use cells::answer::Answer;
 use cells::answer::count as count_of;
@@ -88,4 +90,26 @@ pub extern "C" fn atn_cotp_dt_segment(b: &[u8], said: &mut [u64]) -> bool
             true
         }
     }
+}
+
+// The answer; the count of cells is said.
+#[no_mangle]
+pub extern "C" fn atn_parse_clnp(b: &[u8], out: &mut [u64], said: &mut [u64]) -> u64
+    ensures { λ r. ⌜ Told (length (now (b .entry))) (clnpCells (now (b .entry))) (now (out .entry)) (now (out .exit)) r (now (said .entry)) (now (said .exit)) ⌝ }
+{
+    let a = clnp::parse_clnp(b, out);
+    tell(a, said)
+}
+
+// The answer; the place of the TPDU is said.
+#[no_mangle]
+pub extern "C" fn atn_clnp_cotp_tpdu(b: &[u8], said: &mut [u64]) -> u64
+    ensures { λ r. ⌜ r ≡ tpduAnswer (now (b .entry)) (tpduOf (now (b .entry))) ⌝ }
+    ensures { λ _. ⌜ now (said .exit) ≡ put (now (said .entry)) 0 (tpduPlace (now (b .entry)) (tpduOf (now (b .entry))) ∷ []) ⌝ }
+{
+    let mut answer: u64 = 0;
+    let part = clnp::segment::clnp_cotp_tpdu(b, &mut answer);
+    let place = b.len() - part.len();
+    say(said, 0, place as u64);
+    answer
 }

@@ -1,0 +1,4 @@
+pub mod Segment
+pub mod Label
+pub mod Options
+pub mod Pdu
