@@ -104,8 +104,17 @@ module _ (n : ℕ) where
         pick-elim (GoodRow n true 6) (eqb name 0x03 && eqb len 1)
         (λ e. (omega arith, (omega arith, omega arith), (omega arith, omega arith), (omega arith, (omega arith, omega arith), low, text-good n 6 kClassName (textIn securityClasses [] v) (omega arith) (omega arith, omega arith) (text-low securityClasses v))))
         (λ e. pick-elim (GoodRow n true 6) (eqb name 0x05 && eqb len 2)
-        (λ e. (omega arith, (omega arith, omega arith), (omega arith, omega arith), (omega arith, (omega arith, omega arith), low,
-          good-⊕ n true 6 named (group false 53 (bitNames trafficTypes (getD s (i + 1) 0)) none) (text-good n 6 kSubnetName (textIn subnets [] v) (omega arith) (omega arith, omega arith) (text-low subnets v)) (list-good 53 trafficTypes (getD s (i + 1) 0) (omega arith, omega arith)))))
+        (λ e. (
+          omega arith,
+          (omega arith, omega arith),
+          (omega arith, omega arith),
+          (
+            omega arith,
+            (omega arith, omega arith),
+            low,
+            good-⊕ n true 6 named (group false 53 (bitNames trafficTypes (getD s (i + 1) 0)) none) (text-good n 6 kSubnetName (textIn subnets [] v) (omega arith) (omega arith, omega arith) (text-low subnets v)) (list-good 53 trafficTypes (getD s (i + 1) 0) (omega arith, omega arith)),
+          ),
+        ))
         (λ e. pick-elim (GoodRow n true 6) ((eqb name 0x06 || eqb name 0x07) && eqb len 1)
         (λ e. (omega arith, (omega arith, omega arith), (omega arith, omega arith), list-good 54 atscClasses v (omega arith, omega arith)))
         (λ e. pick-elim (GoodRow n true 6) (eqb name 0x0F && ltb 0 len)
@@ -132,12 +141,16 @@ module _ (n : ℕ) where
       let p : List ℕ = infoPart s (1 + m) in
       pick-elim (GoodRow n true 4) (eqb (length s) 0) (λ e. tt)
       (λ e. pick-elim (GoodRow n true 4) (ltb (length s) (1 + m)) (λ e. tt)
-      (λ l. (omega arith, (omega arith, omega arith), omega (arith, h, ltb-false (length s) (1 + m) l),
+      (λ l. (
+        omega arith,
+        (omega arith, omega arith),
+        omega (arith, h, ltb-false (length s) (1 + m) l),
         pick-elim (GoodRow n true 4) (ltb (1 + m) (length s))
-        (λ t. let w : base + (1 + m) + 1 + length p ≤ n =
-              omega (arith, h, ltb-true (1 + m) (length s) t, length-take (getD s (1 + m) 0) (drop (1 + m + 1) s), length-drop (1 + m + 1) s, min-le-right (getD s (1 + m) 0) (length (drop (1 + m + 1) s))) in
-              good-in-list n true 4 kSecInfo (tagItems (base + (1 + m) + 1) p) (omega arith) (omega arith, omega arith)
-              (tags-good (base + (1 + m) + 1) p (take-small (getD s (1 + m) 0) (drop (1 + m + 1) s) (drop-small (1 + m + 1) s small)) w)) (λ t. tt))))
+            (λ t. let w : base + (1 + m) + 1 + length p ≤ n =
+            omega (arith, h, ltb-true (1 + m) (length s) t, length-take (getD s (1 + m) 0) (drop (1 + m + 1) s), length-drop (1 + m + 1) s, min-le-right (getD s (1 + m) 0) (length (drop (1 + m + 1) s))) in
+            good-in-list n true 4 kSecInfo (tagItems (base + (1 + m) + 1) p) (omega arith) (omega arith, omega arith)
+            (tags-good (base + (1 + m) + 1) p (take-small (getD s (1 + m) 0) (drop (1 + m + 1) s) (drop-small (1 + m + 1) s small)) w)) (λ t. tt),
+      )))
 
   module _ (base : ℕ) (s : List ℕ) (small : Octets s) (within : base + length s ≤ n) where
     value-good : (t i len : ℕ) → i + len ≤ length s → GoodRow n true 3 (optionValue base s t i len)
@@ -150,8 +163,8 @@ module _ (n : ℕ) where
         (λ e. pick-elim (GoodRow n true 3) (eqb t 0xC1 && eqb len 1) (λ e. (omega arith, (omega arith, omega arith), low, tt))
         (λ e. pick-elim (GoodRow n true 3) (eqb t 0xC5 && (ltb 0 len && eqb v 0xC0))
         (λ e. let some : 0 < len = ltb-true 0 len (and-left (ltb 0 len) (eqb v 0xC0) (and-right (eqb t 0xC5) (ltb 0 len && eqb v 0xC0) e)) in
-              let w : base + i + 1 + length p ≤ n = omega (arith, within, h, some, length-take (len - 1) (drop (i + 1) s), min-le-left (len - 1) (length (drop (i + 1) s))) in
-              (omega arith, (omega arith, omega arith), (omega arith, omega arith), (omega arith, (omega arith, omega arith), label-good (base + i + 1) p (take-small (len - 1) (drop (i + 1) s) (drop-small (i + 1) s small)) w, tt)))
+        let w : base + i + 1 + length p ≤ n = omega (arith, within, h, some, length-take (len - 1) (drop (i + 1) s), min-le-left (len - 1) (length (drop (i + 1) s))) in
+        (omega arith, (omega arith, omega arith), (omega arith, omega arith), (omega arith, (omega arith, omega arith), label-good (base + i + 1) p (take-small (len - 1) (drop (i + 1) s) (drop-small (i + 1) s small)) w, tt)))
         (λ e. (omega arith, (omega arith, omega arith), omega (arith, within, h), tt))))
 
     abbrev fine : Items → Type 0
@@ -162,9 +175,17 @@ module _ (n : ℕ) where
     each-option i Stop w = tt
     each-option i (Body start len) w =
         let t = getD s i 0 in
-        let name : Items = optText kName (textIn clnpOptions [] t) in
-        (omega arith, refl, (omega arith, (omega arith, omega arith), small i,
-          good-⊕ n true 3 name (optionValue base s t start len) (text-good n 3 kName (textIn clnpOptions [] t) (omega arith) (omega arith, omega arith) (text-low clnpOptions t)) (value-good t start len (w .2))), tt)
+        let name : Items = optText kName (textIn clnpOptions [] t) in (
+          omega arith,
+          refl,
+          (
+            omega arith,
+            (omega arith, omega arith),
+            small i,
+            good-⊕ n true 3 name (optionValue base s t start len) (text-good n 3 kName (textIn clnpOptions [] t) (omega arith) (omega arith, omega arith) (text-low clnpOptions t)) (value-good t start len (w .2)),
+          ),
+          tt,
+        )
 
     pub options-good : GoodRow n false 2 (optionItems base s)
     options-good = all (optionStep base s) (λ k. none) _⊕_ (length s) fine fine (λ k. tt) (λ c r q g. good-⊕ n false 2 c r q g) (λ i l. each-option i (tlvAt s i) (tlvs.tlv-whole s i))
@@ -188,9 +209,22 @@ module _ (s : List ℕ) (small : Octets s) (short : length s ≤ 65535) (readabl
   one-low i = omega (arith, small i)
 
   head-good : row (headOf s)
-  head-good =
-      (omega arith, (omega arith, omega arith), (omega arith, omega arith), (omega arith, (omega arith, omega arith), type-listed (getD s 4 0 % 32), (omega arith, (omega arith, omega arith), one-low 2,
-      (omega arith, (omega arith, omega arith), one-low 3, (omega arith, (omega arith, omega arith), two-low 5 6, tt)))))
+  head-good = (
+    omega arith,
+    (omega arith, omega arith),
+    (omega arith, omega arith),
+    (
+      omega arith,
+      (omega arith, omega arith),
+      type-listed (getD s 4 0 % 32),
+      (
+        omega arith,
+        (omega arith, omega arith),
+        one-low 2,
+        (omega arith, (omega arith, omega arith), one-low 3, (omega arith, (omega arith, omega arith), two-low 5 6, tt)),
+      ),
+    ),
+  )
 
   offset-low : offsetOf s < 4294967296
   offset-low = pick-elim (λ (k : ℕ). k < 4294967296) (hasSegment s) (λ h. two-low (segAt s + 2) (segAt s + 3)) (λ h. omega arith)
@@ -198,8 +232,22 @@ module _ (s : List ℕ) (small : Octets s) (short : length s ≤ 65535) (readabl
   segment-good : row (segmentMembers s)
   segment-good =
       pick-elim row (hasSegment s)
-      (λ h. (omega arith, (omega arith, omega arith), two-low (segAt s) (segAt s + 1), (omega arith, (omega arith, omega arith), offset-low, (omega arith, (omega arith, omega arith), two-low (segAt s + 4) (segAt s + 5),
-        yes-good (length s) 1 kSegmented (segmented s) (omega arith) (omega arith, omega arith)))))
+      (λ h. (
+        omega arith,
+        (omega arith, omega arith),
+        two-low (segAt s) (segAt s + 1),
+        (
+          omega arith,
+          (omega arith, omega arith),
+          offset-low,
+          (
+            omega arith,
+            (omega arith, omega arith),
+            two-low (segAt s + 4) (segAt s + 5),
+            yes-good (length s) 1 kSegmented (segmented s) (omega arith) (omega arith, omega arith),
+          ),
+        ),
+      ))
       (λ h. tt)
 
   flags-good : row (flagMembers s)
