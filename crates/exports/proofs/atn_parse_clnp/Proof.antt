@@ -5,6 +5,7 @@ use Rattle.exports.proofs.atn_parse_clnp.Reads as reads
 use Rattle.exports.proofs.atn_parse_clnp.Lts as lts
 use Rattle.clnp.proofs.parse_clnp.Reads as parse-clnp-reads
 use Rattle.exports.proofs.tell.Reads as tell-reads
+use Rattle.exports.proofs.Said.{told}
 
 -- src/lib.rt:100:9
 parse-clnp-requires : tie.Need-parse-clnp-requires
@@ -24,7 +25,7 @@ same-length-2 c = search needs
 
 -- src/lib.rt:96:1
 returns : tie.Need-returns
-returns c = ?
+returns c = told (c .before .before .before .before .before .before .parse-clnp .ensures) (c .before .before .tell .ensures .0) (c .before .before .tell .ensures .1)
 
 pub atn-parse-clnp-spec : {M : Type 1} → statement M
 atn-parse-clnp-spec =
