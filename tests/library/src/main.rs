@@ -1,5 +1,6 @@
 //! library SEED COUNT: holds the port, through its static library, against the Rust in one process.
 mod check;
+mod clnp;
 mod cotp;
 mod ours;
 mod x25;
@@ -9,4 +10,5 @@ fn main() {
     let [seed, count] = numbers[..] else { panic!("library SEED COUNT") };
     x25::run(seed, count as usize);
     cotp::run(seed, count as usize);
+    clnp::run(seed, count as usize);
 }

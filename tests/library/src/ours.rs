@@ -4,6 +4,8 @@ extern "C" {
     fn atn_parse_x25(b: *const u8, nb: usize, out: *mut u64, no: usize, said: *mut u64, ns: usize) -> u64;
     fn atn_parse_cotp(b: *const u8, nb: usize, out: *mut u64, no: usize, said: *mut u64, ns: usize) -> u64;
     fn atn_cotp_dt_segment(b: *const u8, nb: usize, said: *mut u64, ns: usize) -> bool;
+    fn atn_parse_clnp(b: *const u8, nb: usize, out: *mut u64, no: usize, said: *mut u64, ns: usize) -> u64;
+    fn atn_clnp_cotp_tpdu(b: *const u8, nb: usize, said: *mut u64, ns: usize) -> u64;
     fn atn_print(cells: *const u64, nc: usize, b: *const u8, nb: usize, out: *mut u8, no: usize, said: *mut u64, ns: usize) -> u64;
 }
 
@@ -29,6 +31,19 @@ pub fn parse_cotp(b: &[u8], out: &mut [u64]) -> Said {
     let mut said = [u64::MAX; 1];
     let answer = unsafe { atn_parse_cotp(b.as_ptr(), b.len(), out.as_mut_ptr(), out.len(), said.as_mut_ptr(), 1) };
     Said { answer, count: said[0] as usize, place: b.len() }
+}
+
+pub fn parse_clnp(b: &[u8], out: &mut [u64]) -> Said {
+    let mut said = [u64::MAX; 1];
+    let answer = unsafe { atn_parse_clnp(b.as_ptr(), b.len(), out.as_mut_ptr(), out.len(), said.as_mut_ptr(), 1) };
+    Said { answer, count: said[0] as usize, place: b.len() }
+}
+
+/// The answer, and the place of the TPDU.
+pub fn clnp_cotp_tpdu(b: &[u8]) -> (u64, usize) {
+    let mut said = [u64::MAX; 1];
+    let answer = unsafe { atn_clnp_cotp_tpdu(b.as_ptr(), b.len(), said.as_mut_ptr(), 1) };
+    (answer, said[0] as usize)
 }
 
 /// Reference, end mark, number and the place of the user data.
