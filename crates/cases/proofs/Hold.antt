@@ -8,9 +8,10 @@ use Rattle.cells.specs.Items.{leafCell, flat}
 use Rattle.cells.specs.Walk.{walkBy, walkFrom}
 use Rattle.cells.specs.Answer.{answerTo}
 use Rattle.x25.specs.Packet.{byType, packetOf, membersOf, x25Cells}
-use Rattle.cotp.specs.Segment.{segmentOf}
+use Rattle.cotp.specs.Segment as cotp
+use Rattle.clnp.specs.Segment as clnp
 use Rattle.cases.specs.Cases.{Every, cases}
 
 pub every-holds : Every cases
-unfolding x25Cells packetOf byType membersOf textIn nameIn restartCauses numberOf placeFrom same texts walkFrom walkBy flat leafCell cellOf answerTo segmentOf
-every-holds = (refl, (λ room. refl, (refl, (refl, tt))))
+unfolding x25Cells packetOf byType membersOf textIn nameIn restartCauses numberOf placeFrom same texts walkFrom walkBy flat leafCell cellOf answerTo cotp.segmentOf clnp.segmentOf clnp.addressesOf
+every-holds = (refl, (λ room. refl, (refl, (refl, ((refl, refl), tt)))))
