@@ -13,9 +13,7 @@ use Rattle.cells.specs.declared.answer.Answer.{Answer}
 use Rattle.x25.specs.Packet.{packetOf, payloadFor}
 use Rattle.x25.proofs.Cases.{fits}
 use Rattle.octets.proofs.Put.{put-nil}
-use Rattle.cotp.specs.declared.segment.Segment.{Segment}
-use Rattle.cotp.specs.declared.segment.Segment.the-variants.{Absent, Piece}
-use Rattle.exports.specs.Told.{Told, isPiece, pieceNumbers}
+use Rattle.exports.specs.Told.{Told}
 
 -- numbers said one after the other
 pub one : (d : List ℕ) (x : ℕ) → set d 0 x ≡ put d 0 (x ∷ [])
@@ -54,18 +52,28 @@ left {n} {xs} {old} {new} {r} p = p .output ∙ ap (λ (a : Answer). outputOf a 
 pub told : {n number : ℕ} {xs old new said said′ : List ℕ} {r : Answer} → Parsed n xs old r new → number ≡ numberOf r → said′ ≡ put said 0 (countOf r ∷ []) → Told n xs old new number said said′
 told {said = said} p a c = record { answered = a ∙ numbered p; output = left p; counted = c ∙ ap (λ (k : ℕ). put said 0 (k ∷ [])) (counted p) }
 
--- ---- a piece in numbers
-pub absent : (s r : Segment) (d : List ℕ) → r ≡ s → r ≡ Absent → (false ≡ isPiece s) × (d ≡ put d 0 (pieceNumbers s))
-absent s r d e h = let k : s ≡ Absent = sym e ∙ h in (ap isPiece (sym k), sym (ap (λ (x : Segment). put d 0 (pieceNumbers x)) k ∙ put-nil d 0))
+-- ---- numbers said one by one
+module _ (d d₁ d₂ d₃ d₄ : List ℕ) (w x y z : ℕ) (a : d₁ ≡ set d 0 w) (b : d₂ ≡ set d₁ 1 x) (c : d₃ ≡ set d₂ 2 y) (e : d₄ ≡ set d₃ 3 z) where
+  all-four : d₄ ≡ set (set (set (set d 0 w) 1 x) 2 y) 3 z
+  all-four = e ∙ ap (λ (l : List ℕ). set l 3 z) (c ∙ ap (λ (l : List ℕ). set l 2 y) (b ∙ ap (λ (l : List ℕ). set l 1 x) a))
 
-four : (d : List ℕ) (w x y z : ℕ) → set (set (set (set d 0 w) 1 x) 2 y) 3 z ≡ put d 0 (w ∷ x ∷ y ∷ z ∷ [])
-unfolding put
-four d w x y z = refl
+  pub four : d₄ ≡ put d 0 (w ∷ x ∷ y ∷ z ∷ [])
+  unfolding put
+  four = all-four
 
-pub piece : (s r : Segment) (d d₁ d₂ d₃ d₄ : List ℕ) (w x y z : ℕ) → r ≡ s → r ≡ Piece w x y z
-    → d₁ ≡ set d 0 w → d₂ ≡ set d₁ 1 x → d₃ ≡ set d₂ 2 y → d₄ ≡ set d₃ 3 z → (true ≡ isPiece s) × (d₄ ≡ put d 0 (pieceNumbers s))
-piece s r d d₁ d₂ d₃ d₄ w x y z e h a b c f =
-    let k : s ≡ Piece w x y z = sym e ∙ h in
-    let all : d₄ ≡ set (set (set (set d 0 w) 1 x) 2 y) 3 z =
-    f ∙ ap (λ (l : List ℕ). set l 3 z) (c ∙ ap (λ (l : List ℕ). set l 2 y) (b ∙ ap (λ (l : List ℕ). set l 1 x) a)) in
-    (ap isPiece (sym k), all ∙ four d w x y z ∙ ap (λ (q : Segment). put d 0 (pieceNumbers q)) (sym k))
+  pub five : (d₅ : List ℕ) (v : ℕ) → d₅ ≡ set d₄ 4 v → d₅ ≡ put d 0 (w ∷ x ∷ y ∷ z ∷ v ∷ [])
+  unfolding put
+  five d₅ v h = h ∙ ap (λ (l : List ℕ). set l 4 v) all-four
+
+-- what an enum says where it is absent, and where it is there
+module _ {E : Type 0} (is : E → Bool) (numbers : E → List ℕ) (none : E) (no : is none ≡ false) (nothing : numbers none ≡ []) where
+  pub absent : (s r : E) (d : List ℕ) → r ≡ s → r ≡ none → (false ≡ is s) × (d ≡ put d 0 (numbers s))
+  absent s r d e h =
+      let k : s ≡ none = sym e ∙ h in
+      (sym (ap is k ∙ no), sym (ap (λ (x : E). put d 0 (numbers x)) k ∙ ap (put d 0) nothing ∙ put-nil d 0))
+
+module _ {E : Type 0} (is : E → Bool) (numbers : E → List ℕ) (v : E) (yes : is v ≡ true) where
+  pub there : (s r : E) (d d′ : List ℕ) → r ≡ s → r ≡ v → d′ ≡ put d 0 (numbers v) → (true ≡ is s) × (d′ ≡ put d 0 (numbers s))
+  there s r d d′ e h p =
+      let k : s ≡ v = sym e ∙ h in
+      (sym (ap is k ∙ yes), p ∙ ap (λ (x : E). put d 0 (numbers x)) (sym k))

@@ -8,12 +8,16 @@ ghost use Rattle.cotp.specs.Tpdu.{cotpCells};
 ghost use Rattle.cotp.specs.Segment.{segmentOf};
 ghost use Rattle.print.specs.Print.{printed};
 ghost use Rattle.x25.specs.Packet.{x25Cells, x25Answer, payloadFor};
-ghost use Rattle.clnp.specs.Pdu.{clnpCells};
+ghost use Rattle.clnp.specs.Pdu.{clnpCells, hasAddresses};
+ghost use Rattle.clnp.specs.Segment.{segmentOf as clnpSegmentOf, addressesOf};
 ghost use Rattle.clnp.specs.Segment.{tpduOf, tpduAnswer, tpduPlace};
-ghost use Rattle.exports.specs.Told.{Told, isPiece, pieceNumbers};
+ghost use Rattle.exports.specs.Told.{Told, isPiece, pieceNumbers, isSegment, segmentNumbers, addressNumbers};
 use cells::answer::Answer;
 use cells::answer::count as count_of;
 use cells::answer::number;
+use clnp::segment::Addresses;
+use clnp::segment::clnp_addresses;
+use clnp::segment::clnp_segment;
 use cotp::segment::Segment;
 use cotp::segment::cotp_dt_segment;
 
@@ -99,6 +103,54 @@ pub extern "C" fn atn_parse_clnp(b: &[u8], out: &mut [u64], said: &mut [u64]) ->
 {
     let a = clnp::parse_clnp(b, out);
     tell(a, said)
+}
+
+// Whether the octets have a segmentation part; its id, offset, total length, more bit and the header length are said.
+#[no_mangle]
+pub extern "C" fn atn_clnp_segment(b: &[u8], said: &mut [u64]) -> bool
+    ensures { λ r. ⌜ r ≡ isSegment (clnpSegmentOf (now (b .entry))) ⌝ }
+    ensures { λ _. ⌜ now (said .exit) ≡ put (now (said .entry)) 0 (segmentNumbers (clnpSegmentOf (now (b .entry)))) ⌝ }
+{
+    match clnp_segment(b) {
+        clnp::segment::Segment::Absent => false,
+        clnp::segment::Segment::Fields {
+            id,
+            offset,
+            total,
+            more,
+            header,
+        } => {
+            say(said, 0, id as u64);
+            say(said, 1, offset as u64);
+            say(said, 2, total as u64);
+            say(said, 3, more as u64);
+            say(said, 4, header as u64);
+            true
+        }
+    }
+}
+
+// Whether the octets have two addresses; place and length of the destination and of the source are said.
+#[no_mangle]
+pub extern "C" fn atn_clnp_addresses(b: &[u8], said: &mut [u64]) -> bool
+    ensures { λ r. ⌜ r ≡ hasAddresses (addressesOf (now (b .entry))) ⌝ }
+    ensures { λ _. ⌜ now (said .exit) ≡ put (now (said .entry)) 0 (addressNumbers (addressesOf (now (b .entry)))) ⌝ }
+{
+    match clnp_addresses(b) {
+        Addresses::Absent => false,
+        Addresses::Two {
+            dst,
+            dstlen,
+            src,
+            srclen,
+        } => {
+            say(said, 0, dst as u64);
+            say(said, 1, dstlen as u64);
+            say(said, 2, src as u64);
+            say(said, 3, srclen as u64);
+            true
+        }
+    }
 }
 
 // The answer; the place of the TPDU is said.

@@ -1,4 +1,4 @@
-//! `parse_clnp` and `clnp_cotp_tpdu`: headers with addresses, segmentation, options, labels and TPDUs, whole, cut and damaged.
+//! `parse_clnp`, `clnp_segment`, `clnp_addresses` and `clnp_cotp_tpdu`: headers with addresses, segmentation, options, labels and TPDUs, whole, cut and damaged.
 use crate::check::{Check, Rust};
 use crate::ours;
 use oracle::atn;
@@ -9,22 +9,32 @@ fn rust(b: &[u8]) -> Option<Rust> {
     Some(Rust { json: serde_json::to_string(&record).expect("JSON"), part: Vec::new() })
 }
 
-fn tpdu(b: &[u8]) {
-    let rust = match atn::clnp_cotp_tpdu(b) {
-        _ if b.len() > 65_535 => (3, b.len()),
-        None => (15, b.len()),
-        Some(part) => (0, b.len() - part.len()),
-    };
-    let ours = ours::clnp_cotp_tpdu(b);
+/// Two answers that must be the same.
+fn same<T: PartialEq + std::fmt::Debug>(name: &str, b: &[u8], ours: T, rust: T) {
     if ours != rust {
         let hex: String = b.iter().take(64).map(|x| format!("{x:02x}")).collect();
-        eprintln!("clnp_cotp_tpdu {hex} ({} octets): {ours:?}, and the Rust {rust:?}", b.len());
+        eprintln!("{name} {hex} ({} octets): {ours:?}, and the Rust {rust:?}", b.len());
         std::process::exit(1);
     }
 }
 
+fn parts(b: &[u8]) {
+    let tpdu = match atn::clnp_cotp_tpdu(b) {
+        _ if b.len() > 65_535 => (3, b.len()),
+        None => (15, b.len()),
+        Some(part) => (0, b.len() - part.len()),
+    };
+    same("clnp_cotp_tpdu", b, ours::clnp_cotp_tpdu(b), tpdu);
+    let segment = atn::clnp_segment(b)
+        .map(|s| [s.pdu_id as u64, s.offset as u64, s.total_len as u64, s.more as u64, s.hdr_len as u64]);
+    same("clnp_segment", b, ours::clnp_segment(b), segment);
+    let addresses = atn::reach::clnp_addresses(b);
+    let ours = ours::clnp_addresses(b).map(|(dst, src)| (dst.to_vec(), src.to_vec()));
+    same("clnp_addresses", b, ours, addresses);
+}
+
 fn one(check: &mut Check, b: &[u8], rooms: bool) {
-    tpdu(b);
+    parts(b);
     let said = if b.len() > 65_535 { None } else { rust(b) };
     check.input(b, said, rooms)
 }
@@ -143,5 +153,5 @@ pub fn run(seed: u64, count: usize) {
         Input::Call(_, b) => one(&mut check, &b, false),
         _ => {}
     });
-    println!("parse_clnp, clnp_cotp_tpdu: {} inputs, {} records, none apart", check.inputs, check.records);
+    println!("parse_clnp, clnp_segment, clnp_addresses, clnp_cotp_tpdu: {} inputs, {} records, none apart", check.inputs, check.records);
 }

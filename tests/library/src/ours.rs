@@ -6,6 +6,8 @@ extern "C" {
     fn atn_cotp_dt_segment(b: *const u8, nb: usize, said: *mut u64, ns: usize) -> bool;
     fn atn_parse_clnp(b: *const u8, nb: usize, out: *mut u64, no: usize, said: *mut u64, ns: usize) -> u64;
     fn atn_clnp_cotp_tpdu(b: *const u8, nb: usize, said: *mut u64, ns: usize) -> u64;
+    fn atn_clnp_segment(b: *const u8, nb: usize, said: *mut u64, ns: usize) -> bool;
+    fn atn_clnp_addresses(b: *const u8, nb: usize, said: *mut u64, ns: usize) -> bool;
     fn atn_print(cells: *const u64, nc: usize, b: *const u8, nb: usize, out: *mut u8, no: usize, said: *mut u64, ns: usize) -> u64;
 }
 
@@ -37,6 +39,21 @@ pub fn parse_clnp(b: &[u8], out: &mut [u64]) -> Said {
     let mut said = [u64::MAX; 1];
     let answer = unsafe { atn_parse_clnp(b.as_ptr(), b.len(), out.as_mut_ptr(), out.len(), said.as_mut_ptr(), 1) };
     Said { answer, count: said[0] as usize, place: b.len() }
+}
+
+/// Id, offset, total length, more bit and header length.
+pub fn clnp_segment(b: &[u8]) -> Option<[u64; 5]> {
+    let mut said = [u64::MAX; 5];
+    let is = unsafe { atn_clnp_segment(b.as_ptr(), b.len(), said.as_mut_ptr(), 5) };
+    is.then_some(said)
+}
+
+/// Destination and source, as parts of the octets.
+pub fn clnp_addresses(b: &[u8]) -> Option<(&[u8], &[u8])> {
+    let mut said = [u64::MAX; 4];
+    let is = unsafe { atn_clnp_addresses(b.as_ptr(), b.len(), said.as_mut_ptr(), 4) };
+    let part = |at: u64, n: u64| &b[at as usize..(at + n) as usize];
+    is.then(|| (part(said[0], said[1]), part(said[2], said[3])))
 }
 
 /// The answer, and the place of the TPDU.
