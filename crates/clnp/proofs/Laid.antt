@@ -2,20 +2,22 @@
 use Prim.Native.Nat.{ℕ, _+_, _*_, _-_, _/_, _%_, _≤_, _<_}
 use mathlib.Core.Bool.{Bool, true, false, not, _&&_, _||_}
 use mathlib.Core.List.{List, [], _∷_, _++_, append-assoc}
-use mathlib.Core.Path.{_≡_, refl, sym, ap, _∙_}
+use mathlib.Core.Path.{_≡_, refl, sym, ap, ap₂, _∙_}
 use native.Mathlib.Nat.{add-zero}
 use native.Mathlib.Omega.{arith}
-use borrow.Author.Tests.{lt-ltb, le-leb, lt-leb, eqb-true, eqb-false}
+use borrow.Author.Tests.{lt-ltb, le-leb, lt-leb, eq-eqb, eqb-true, eqb-false}
 use lib.Dec.{leb, eqb}
 use lib.ListN.{length, getD, take, drop, length-append}
 use lib.Seq.{take-at, drop-at, drop-drop, getD-drop}
 use Rattle.octets.specs.Text.{pick}
-use Rattle.octets.specs.Read.{be16}
+use Rattle.octets.specs.Read.{be16, octetsOf}
 use Rattle.cotp.proofs.Laid.{two-back}
-use Rattle.clnp.specs.Segment.{headed, sp, more, report, behind, segAt, addressOk, addressesOf}
-use Rattle.clnp.specs.Layout.{Fields, Right, addressLaid, segmentLaid, behindFixed, headerLen, laid}
+use Rattle.clnp.specs.Segment.{headed, sp, more, report, behind, segAt, segmentOf, addressOk, addressesOf}
+use Rattle.clnp.specs.Pdu.{optionsAt, optionPart}
+use Rattle.clnp.specs.Layout.{Fields, Right, addressLaid, segmentLaid, behindFixed, headerLen, fixedLaid, laid}
+use Rattle.clnp.specs.declared.segment.Segment.the-variants as segment
 use Rattle.clnp.specs.declared.segment.Addresses.the-variants as addresses
-use Rattle.clnp.proofs.Headers.{by-length, two}
+use Rattle.clnp.proofs.Headers.{by-length, fieldsOf, no-sp, is-there, two}
 
 -- ---- lengths
 long : (f : Fields) → length (laid f) ≡ headerLen f + length (f .body)
@@ -155,4 +157,60 @@ module _ (f : Fields) (r : Right f) where
         src = ap (λ (n : ℕ). take (length (f .src)) (drop n (laid f))) (sym m) ∙ ap (take (length (f .src))) (drop-src-value f) ∙ take-at (f .src) (fromPart f) (length (f .src)) refl;
         behind-dst = refl;
         behind-src = part-at f;
+      }
+
+-- ---- the segmentation part
+segment-laid : (f : Fields) → f .sp ≡ 1 → segmentLaid f ≡ octetsOf 2 (f .id) ++ (octetsOf 2 (f .offset) ++ octetsOf 2 (f .total))
+segment-laid f h = ap (λ (b : Bool). pick b (octetsOf 2 (f .id) ++ (octetsOf 2 (f .offset) ++ octetsOf 2 (f .total))) []) (eq-eqb (f .sp) 1 h)
+
+module _ (f : Fields) (r : Right f) where
+  fields-back : f .sp ≡ 1 → fieldsOf (laid f) (partAt f) ≡ segment.Fields (f .id) (f .offset) (f .total) (f .ms) (headerLen f)
+  fields-back h =
+      let s : List ℕ = laid f in
+      let p : ℕ = partAt f in
+      let tail : List ℕ = f .options ++ f .body in
+      let all : List ℕ = octetsOf 2 (f .id) ++ (octetsOf 2 (f .offset) ++ (octetsOf 2 (f .total) ++ tail)) in
+      let w : drop p s ≡ all = drop-part f ∙ ap (λ (z : List ℕ). z ++ tail) (segment-laid f h) in
+      let at : (k : ℕ) → getD s (p + k) 0 ≡ getD all k 0 = λ k. octet-of s all p k w in
+      let a : be16 (getD s p 0) (getD s (p + 1) 0) ≡ f .id = ap₂ be16 (first-of s all p w) (at 1) ∙ two-back (f .id) [] (r .numbers .1) in
+      let b : be16 (getD s (p + 2) 0) (getD s (p + 3) 0) ≡ f .offset = ap₂ be16 (at 2) (at 3) ∙ two-back (f .offset) [] (r .numbers .2) in
+      let c : be16 (getD s (p + 4) 0) (getD s (p + 5) 0) ≡ f .total = ap₂ be16 (at 4) (at 5) ∙ two-back (f .total) [] (r .numbers .3) in
+      λ i. segment.Fields (a i) (b i) (c i) (head-back f r .more-back i) (headerLen f)
+
+  pub segment-back : f .sp ≡ 1 → segmentOf (laid f) ≡ segment.Fields (f .id) (f .offset) (f .total) (f .ms) (headerLen f)
+  segment-back h =
+      let s : List ℕ = laid f in
+      let n : length s ≡ partAt f + (6 + length (f .options)) + length (f .body) = omega (arith, long f, header-long f, ap length (segment-laid f h)) in
+      let at : partAt f ≡ behind s (srcAt f) = omega (arith, src-len f) in
+      sym (is-there s (full-back f r) (omega (arith, h)) (omega (arith, n)) (srcAt f) refl (omega (arith, n)) (partAt f) at (omega (arith, n)) (sym (fields-back h)))
+
+  pub segment-absent : f .sp ≡ 0 → segmentOf (laid f) ≡ segment.Absent
+  segment-absent h = sym (no-sp (laid f) (full-back f r) (omega (arith, h, r .flags .1, r .flags .2, r .flags .3)))
+
+-- ---- options and data
+pick-long : (b : Bool) (a : List ℕ) → length (pick b a []) ≡ pick b (length a) 0
+pick-long true a = refl
+pick-long false a = refl
+
+pub record DataRead (s : List ℕ) (f : Fields) : Type 0 where
+  pub body : drop (headerLen f) s ≡ f .body
+  pub options-at : optionsAt s ≡ 11 + length (f .dst) + length (f .src) + pick (eqb (f .sp) 1) 6 0
+  pub options : optionPart s ≡ f .options
+
+module _ (f : Fields) (r : Right f) where
+  place : optionsAt (laid f) ≡ partAt f + pick (eqb (f .sp) 1) 6 0
+  place = λ i. part-at f i + pick (sp-back f r i) 6 0
+
+  pub data-back : DataRead (laid f) f
+  data-back =
+      let s : List ℕ = laid f in
+      let l : length (segmentLaid f) ≡ pick (eqb (f .sp) 1) 6 0 = pick-long (eqb (f .sp) 1) (octetsOf 2 (f .id) ++ (octetsOf 2 (f .offset) ++ octetsOf 2 (f .total))) in
+      let p : optionsAt s ≡ partAt f + length (segmentLaid f) = place ∙ ap (λ (n : ℕ). partAt f + n) (sym l) in
+      let d : drop (optionsAt s) s ≡ f .options ++ f .body =
+      ap (λ (n : ℕ). drop n s) p ∙ next s (segmentLaid f) (f .options ++ f .body) (partAt f) (drop-part f) in
+      let n : length (f .options) ≡ headerLen f - optionsAt s = omega (arith, p, header-long f) in
+      record {
+        body = drop-at (fixedLaid f ++ behindFixed f) (f .body) (headerLen f) (omega arith);
+        options-at = place;
+        options = ap (take (headerLen f - optionsAt s)) d ∙ take-at (f .options) (f .body) (headerLen f - optionsAt s) n;
       }
