@@ -5,19 +5,22 @@ use mathlib.Core.List.{List, [], _∷_, _++_, append-assoc}
 use mathlib.Core.Path.{_≡_, refl, sym, ap, ap₂, _∙_}
 use native.Mathlib.Nat.{add-zero}
 use native.Mathlib.Omega.{arith}
-use borrow.Author.Tests.{lt-ltb, le-leb, lt-leb, eq-eqb, eqb-true, eqb-false}
+use borrow.Author.Tests.{lt-ltb, le-leb, lt-leb, eq-eqb, ne-eqb, eqb-true, eqb-false}
 use lib.Dec.{leb, eqb}
 use lib.ListN.{length, getD, take, drop, length-append}
 use lib.Seq.{take-at, drop-at, drop-drop, getD-drop}
 use Rattle.octets.specs.Text.{pick}
 use Rattle.octets.specs.Read.{be16, octetsOf}
+use Rattle.cells.specs.Items.{none}
+use Rattle.cotp.specs.Tpdu.{headOf}
 use Rattle.cotp.proofs.Laid.{two-back}
-use Rattle.clnp.specs.Segment.{headed, sp, more, report, behind, segAt, segmentOf, addressOk, addressesOf}
-use Rattle.clnp.specs.Pdu.{optionsAt, optionPart}
+use Rattle.clnp.specs.Segment.{headed, sp, more, report, behind, segAt, segmentOf, addressOk, addressesOf, isPiece, tpduOf}
+use Rattle.clnp.specs.Pdu.{offsetOf, segmented, optionsAt, optionPart, cotpMember, dataMember}
 use Rattle.clnp.specs.Layout.{Fields, Right, addressLaid, segmentLaid, behindFixed, headerLen, fixedLaid, laid}
 use Rattle.clnp.specs.declared.segment.Segment.the-variants as segment
 use Rattle.clnp.specs.declared.segment.Addresses.the-variants as addresses
-use Rattle.clnp.proofs.Headers.{by-length, fieldsOf, no-sp, is-there, two}
+use Rattle.clnp.specs.declared.segment.Tpdu.the-variants as tpdu
+use Rattle.clnp.proofs.Headers.{by-length, fieldsOf, no-sp, is-there, two, a-piece, whole}
 
 -- ---- lengths
 long : (f : Fields) → length (laid f) ≡ headerLen f + length (f .body)
@@ -214,3 +217,44 @@ module _ (f : Fields) (r : Right f) where
         options-at = place;
         options = ap (take (headerLen f - optionsAt s)) d ∙ take-at (f .options) (f .body) (headerLen f - optionsAt s) n;
       }
+
+-- ---- the TPDU
+-- a PDU that is no piece of a unit
+pub data Whole (f : Fields) : Type 0 where
+  unpermitted : f .sp ≡ 0 → Whole f
+  alone : f .ms ≡ 0 → f .offset ≡ 0 → Whole f
+
+module _ (f : Fields) (r : Right f) where
+  -- with SP, by the segmentation part
+  piece-is : f .sp ≡ 1 → (sp (laid f) && isPiece (segmentOf (laid f))) ≡ (eqb (f .ms) 1 || not (eqb (f .offset) 0))
+  piece-is h = ap (λ (b : Bool). b && isPiece (segmentOf (laid f))) (sp-back f r ∙ eq-eqb (f .sp) 1 h) ∙ ap isPiece (segment-back f r h)
+
+  no-piece : f .sp ≡ 0 → (sp (laid f) && isPiece (segmentOf (laid f))) ≡ false
+  no-piece h = ap (λ (b : Bool). b && isPiece (segmentOf (laid f))) (sp-back f r ∙ ne-eqb (f .sp) 1 (λ q. omega arith))
+
+  not-piece : Whole f → (b : Bool) → eqb (f .sp) 1 ≡ b → (sp (laid f) && isPiece (segmentOf (laid f))) ≡ false
+  not-piece (unpermitted h) b e = no-piece h
+  not-piece (alone m o) true e = piece-is (eqb-true (f .sp) 1 e) ∙ ap₂ (λ (x y : ℕ). eqb x 1 || not (eqb y 0)) m o
+  not-piece (alone m o) false e = no-piece (omega (arith, r .flags .0, eqb-false (f .sp) 1 e))
+
+  dt-back : f .type ≡ 0x1C → getD (laid f) 4 0 % 32 ≡ 0x1C
+  dt-back t = head-back f r .type ∙ t
+
+  pub tpdu-back : f .type ≡ 0x1C → Whole f → tpduOf (laid f) ≡ tpdu.From (headerLen f)
+  tpdu-back t w = sym (whole (laid f) (full-back f r) (dt-back t) (headerLen f) refl (not-piece w (eqb (f .sp) 1) refl))
+
+  -- none of a piece
+  pub tpdu-absent : f .type ≡ 0x1C → f .sp ≡ 1 → (eqb (f .ms) 1 || not (eqb (f .offset) 0)) ≡ true → tpduOf (laid f) ≡ tpdu.Absent
+  tpdu-absent t h p = sym (a-piece (laid f) (full-back f r) (dt-back t) (piece-is h ∙ p))
+
+  -- the record has no TPDU where the more bit is set, also without SP, where the TPDU alone is still given
+  pub more-segmented : f .ms ≡ 1 → segmented (laid f) ≡ true
+  more-segmented m = ap (λ (n : ℕ). eqb n 1 || not (eqb (offsetOf (laid f)) 0)) (head-back f r .more-back ∙ m)
+
+  pub more-none : f .ms ≡ 1 → dataMember (laid f) ≡ none
+  more-none m =
+      let n : ℕ = getD (laid f) 1 0 in
+      ap (λ (b : Bool). pick b none (cotpMember n (drop n (laid f)) (headOf (drop n (laid f))))) (more-segmented m)
+
+  pub unpermitted-more : f .type ≡ 0x1C → f .sp ≡ 0 → f .ms ≡ 1 → (tpduOf (laid f) ≡ tpdu.From (headerLen f)) × (dataMember (laid f) ≡ none)
+  unpermitted-more t h m = (tpdu-back t (unpermitted h), more-none m)
