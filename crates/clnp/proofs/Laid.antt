@@ -1,5 +1,5 @@
 -- PDUs that are laid out as ISO 8473 draws them are read as what was laid out.
-use Prim.Native.Nat.{ℕ, _+_, _*_, _-_, _/_, _%_, _≤_, _<_}
+use Prim.Native.Nat.{ℕ, _+_, _*_, _-_, _%_, _≤_, _<_}
 use mathlib.Core.Bool.{Bool, true, false, not, _&&_, _||_}
 use mathlib.Core.List.{List, [], _∷_, _++_, append-assoc}
 use mathlib.Core.Path.{_≡_, refl, sym, ap, ap₂, _∙_}
@@ -140,7 +140,7 @@ module _ (f : Fields) (r : Right f) where
   dst-ok =
       let s : List ℕ = laid f in
       let d : ℕ = length (f .dst) in
-      let n : 12 + d ≤ length s + 1 = omega (arith, long f, header-long f) in
+      let n : 11 + d ≤ length s = omega (arith, long f, header-long f) in
       simp (lt-ltb 9 (length s) (omega arith), le-leb (10 + d) (length s) (omega arith), le-leb d 20 (r .addresses .0))
 
   src-ok : addressOk (laid f) (srcAt f) ≡ true
