@@ -7,3 +7,5 @@ pub mod Thin
 pub mod Says
 pub mod Determined
 pub mod WellFormed
+pub mod OptionsLaid
+pub mod Laid
