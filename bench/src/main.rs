@@ -39,31 +39,62 @@ fn filled(blocks: u64, units: u64) -> Store {
 
 fn single() {
     println!("store test, ns\n");
-    for (blocks, units) in [(128, 1), (128, 6), (128, 24), (1024, 1), (1024, 6), (1024, 24)] {
+    for (blocks, units) in [
+        (128, 1),
+        (128, 6),
+        (128, 24),
+        (1024, 1),
+        (1024, 6),
+        (1024, 24),
+    ] {
         let mut s = filled(blocks, units);
-        println!("| b = {blocks}, {units} units | {:.0} |", least(20, 20000, || assert!(black_box(&mut s).test())));
+        println!(
+            "| b = {blocks}, {units} units | {:.0} |",
+            least(20, 20000, || assert!(black_box(&mut s).test()))
+        );
     }
     println!("\none operation at b = 128 and 6 units, ns\n");
     let mut s = filled(128, 6);
     let k = key(1004);
-    println!("| find | {:.0} |", least(20, 20000, || assert_eq!(black_box(&mut s).find(0, &k), 1)));
-    println!("| room | {:.0} |", least(20, 20000, || assert_eq!(black_box(&mut s).room(0, 0, 4, 5), 2)));
+    println!(
+        "| find | {:.0} |",
+        least(20, 20000, || assert_eq!(black_box(&mut s).find(0, &k), 1))
+    );
+    println!(
+        "| room | {:.0} |",
+        least(20, 20000, || assert_eq!(
+            black_box(&mut s).room(0, 0, 4, 5),
+            2
+        ))
+    );
     for n in [20usize, 128, 1000] {
         let src = vec![5u8; n];
-        println!("| append of {n}, and cut again | {:.0} |", least(20, 20000, || {
-            s.append(0, 0, 0, &src);
-            s.splice(0, 0, 0, 200, &[]);
-        }));
+        println!(
+            "| append of {n}, and cut again | {:.0} |",
+            least(20, 20000, || {
+                s.append(0, 0, 0, &src);
+                s.splice(0, 0, 0, 200, &[]);
+            })
+        );
     }
-    println!("| cut alone (to the length it has) | {:.0} |", least(20, 20000, || black_box(&mut s).splice(0, 0, 0, 200, &[])));
+    println!(
+        "| cut alone (to the length it has) | {:.0} |",
+        least(20, 20000, || black_box(&mut s).splice(0, 0, 0, 200, &[]))
+    );
     let mut out = vec![0u8; 8192];
-    println!("| copy out, 200 octets | {:.0} |", least(20, 20000, || assert_eq!(s.read(0, 0, 0, &mut out, 0), 200)));
+    println!(
+        "| copy out, 200 octets | {:.0} |",
+        least(20, 20000, || assert_eq!(s.read(0, 0, 0, &mut out, 0), 200))
+    );
     let kept = s.clone();
-    println!("| add, and remove the last | {:.0} |", least(20, 20000, || {
-        s.add(0, &key(7), 0, 0.0);
-        let j = s.units(0) - 1;
-        s.remove(0, j);
-    }));
+    println!(
+        "| add, and remove the last | {:.0} |",
+        least(20, 20000, || {
+            s.add(0, &key(7), 0, 0.0);
+            let j = s.units(0) - 1;
+            s.remove(0, j);
+        })
+    );
     drop(kept);
 }
 
@@ -85,7 +116,10 @@ fn hold(s: &mut Store, link: usize, key: &[u64; 6], piece: &[u8], note: u64, now
     let j = begin(s, link, key, now);
     let new = j == s.units(link);
     let d = if new { 0 } else { s.len(link, j, 0) };
-    assert_eq!(s.room(link, new as u64, blocks(d), blocks(d + piece.len())), 2);
+    assert_eq!(
+        s.room(link, new as u64, blocks(d), blocks(d + piece.len())),
+        2
+    );
     if new {
         s.add(link, key, note, now);
     }
@@ -96,7 +130,14 @@ fn hold(s: &mut Store, link: usize, key: &[u64; 6], piece: &[u8], note: u64, now
 }
 
 /// The last piece: the whole unit stands in the output.
-fn end(s: &mut Store, link: usize, key: &[u64; 6], piece: &[u8], out: &mut [u8], now: f64) -> usize {
+fn end(
+    s: &mut Store,
+    link: usize,
+    key: &[u64; 6],
+    piece: &[u8],
+    out: &mut [u8],
+    now: f64,
+) -> usize {
     let j = begin(s, link, key, now);
     if j == s.units(link) {
         out[..piece.len()].copy_from_slice(piece);
@@ -110,11 +151,30 @@ fn end(s: &mut Store, link: usize, key: &[u64; 6], piece: &[u8], out: &mut [u8],
 
 /// A piece of CLNP: the header where its offset is 0, the count of octets as the note.
 #[allow(clippy::too_many_arguments)]
-fn clnp(s: &mut Store, link: usize, key: &[u64; 6], total: usize, offset: usize, header: &[u8], piece: &[u8], out: &mut [u8], now: f64, note: u64) -> usize {
+fn clnp(
+    s: &mut Store,
+    link: usize,
+    key: &[u64; 6],
+    total: usize,
+    offset: usize,
+    header: &[u8],
+    piece: &[u8],
+    out: &mut [u8],
+    now: f64,
+    note: u64,
+) -> usize {
     let j = begin(s, link, key, now);
     let new = j == s.units(link);
-    let (have, head) = if new { (0, 0) } else { (blocks(total), blocks(s.len(link, j, 1))) };
-    let top = if offset == 0 { blocks(header.len()) } else { head };
+    let (have, head) = if new {
+        (0, 0)
+    } else {
+        (blocks(total), blocks(s.len(link, j, 1)))
+    };
+    let top = if offset == 0 {
+        blocks(header.len())
+    } else {
+        head
+    };
     let filled = note as usize + piece.len();
     if filled == total {
         let h = s.read(link, j, 1, out, 0);
@@ -123,7 +183,10 @@ fn clnp(s: &mut Store, link: usize, key: &[u64; 6], total: usize, offset: usize,
         s.remove(link, j);
         return h + n;
     }
-    assert_eq!(s.room(link, new as u64, have + head, blocks(total) + top), 2);
+    assert_eq!(
+        s.room(link, new as u64, have + head, blocks(total) + top),
+        2
+    );
     if new {
         s.add(link, key, 0, now);
         s.zeros(link, j, 0, 0, total);
@@ -145,7 +208,12 @@ fn x25_packet(lcn: u8, more: bool, n: usize) -> X25Packet {
 }
 
 fn row(name: &str, pushes: usize, rust: f64, ours: f64) {
-    println!("| {name} | {:.0} | {:.0} | {:.2} |", rust / pushes as f64, ours / pushes as f64, rust / ours);
+    println!(
+        "| {name} | {:.0} | {:.0} | {:.2} |",
+        rust / pushes as f64,
+        ours / pushes as f64,
+        rust / ours
+    );
 }
 
 fn x25(n: usize) {
@@ -214,7 +282,14 @@ fn clnp_pieces(total: usize, n: usize, id: u8) -> Vec<Vec<u8>> {
         b.extend([1; 16]);
         b.push(16);
         b.extend([2; 16]);
-        b.extend([0, id, (at >> 8) as u8, at as u8, ((total + 51) >> 8) as u8, (total + 51) as u8]);
+        b.extend([
+            0,
+            id,
+            (at >> 8) as u8,
+            at as u8,
+            ((total + 51) >> 8) as u8,
+            (total + 51) as u8,
+        ]);
         b.resize(51, 0);
         b.extend(vec![0x55; len]);
         all.push(b);
@@ -226,7 +301,11 @@ fn clnp_pieces(total: usize, n: usize, id: u8) -> Vec<Vec<u8>> {
 fn clnp_row(name: &str, blocks: u64, total: usize, n: usize, turns: usize, calls: usize) {
     let pieces = clnp_pieces(total, n, 9);
     let mut r = ClnpReassembler::new();
-    let mut s = if total < 10000 { filled(blocks, 6) } else { Store::new(4, blocks, 16, 960) };
+    let mut s = if total < 10000 {
+        filled(blocks, 6)
+    } else {
+        Store::new(4, blocks, 16, 960)
+    };
     if total < 10000 {
         for u in 0..6 {
             r.push(&clnp_pieces(200, 100, 100 + u)[0], 0.0);
@@ -238,12 +317,30 @@ fn clnp_row(name: &str, blocks: u64, total: usize, n: usize, turns: usize, calls
         }
     });
     let mut out = vec![0u8; 65536];
-    let k = [9, 0x0101010101010101, 0x0101010101010101, 0x0202020202020202, 0x0202020202020202, 0];
+    let k = [
+        9,
+        0x0101010101010101,
+        0x0101010101010101,
+        0x0202020202020202,
+        0x0202020202020202,
+        0,
+    ];
     let ours = least(turns, calls, || {
         let mut at = 0;
         let mut got = 0;
         for p in &pieces {
-            got = clnp(&mut s, 0, &k, total, at, &p[..51], &p[51..], &mut out, 0.0, at as u64);
+            got = clnp(
+                &mut s,
+                0,
+                &k,
+                total,
+                at,
+                &p[..51],
+                &p[51..],
+                &mut out,
+                0.0,
+                at as u64,
+            );
             at += p.len() - 51;
         }
         assert_eq!(got, total + 51);
@@ -257,7 +354,9 @@ fn packets() -> Vec<(String, Vec<u8>)> {
     let mut call = vec![0x10, 9, 0x0B, 0x22, 0x12, 0x34, 40];
     call.extend([0x02, 0x55].repeat(20));
     call.extend([0xC1, 4, 1, 0, 0, 0x63, 0xAA, 0xBB]);
-    let mut all: Vec<_> = [20, 64, 128, 240].map(|n| (format!("data of {n}"), data(n))).into();
+    let mut all: Vec<_> = [20, 64, 128, 240]
+        .map(|n| (format!("data of {n}"), data(n)))
+        .into();
     all.push(("RR".into(), vec![0x10, 9, 0x21]));
     all.push(("clear".into(), vec![0x10, 9, 0x13, 0x05, 0x42]));
     all.push(("call with 20 facilities".into(), call));
@@ -269,8 +368,12 @@ fn parsing() {
     println!("| Packet | Rust | port | ratio |\n|---|---|---|---|");
     let mut cells = vec![0u64; 4 * 300 + 64];
     for (name, b) in packets() {
-        let rust = least(20, 20000, || assert!(black_box(parse_x25(black_box(&b))).is_some()));
-        let ours = least(20, 20000, || assert_eq!(store::parse_x25(black_box(&b), &mut cells), 0));
+        let rust = least(20, 20000, || {
+            assert!(black_box(parse_x25(black_box(&b))).is_some())
+        });
+        let ours = least(20, 20000, || {
+            assert_eq!(store::parse_x25(black_box(&b), &mut cells), 0)
+        });
         row(&name, 1, rust, ours);
     }
 }
@@ -288,7 +391,14 @@ fn main() {
         cotp(n);
     }
     for n in [20, 128, 240] {
-        clnp_row(&format!("CLNP, four pieces of {n}"), 128, 4 * n, n, 20, 5000);
+        clnp_row(
+            &format!("CLNP, four pieces of {n}"),
+            128,
+            4 * n,
+            n,
+            20,
+            5000,
+        );
     }
     println!("\nb = 1,024, one unit of 60,000 octets, completion included\n");
     println!("| Traffic | Rust | pool | ratio |\n|---|---|---|---|");

@@ -55,8 +55,17 @@ macro_rules! with {
 impl Store {
     pub fn new(links: u64, blocks: u64, reserve: u64, cap: u64) -> Store {
         let b = blocks as usize;
-        let mut s = Store { words: vec![7; 1576], times: vec![0.0; 128], list: vec![9; b], home: vec![9; b], blocks: vec![1; 64 * b] };
-        assert!(with!(s, calls_create, links, blocks, reserve, cap), "settings");
+        let mut s = Store {
+            words: vec![7; 1576],
+            times: vec![0.0; 128],
+            list: vec![9; b],
+            home: vec![9; b],
+            blocks: vec![1; 64 * b],
+        };
+        assert!(
+            with!(s, calls_create, links, blocks, reserve, cap),
+            "settings"
+        );
         s
     }
 
@@ -73,7 +82,16 @@ impl Store {
     }
 
     pub fn room(&mut self, link: usize, units: u64, from: u64, to: u64) -> u64 {
-        unsafe { calls_room(self.words.as_mut_ptr(), self.words.len(), link, units, from, to) }
+        unsafe {
+            calls_room(
+                self.words.as_mut_ptr(),
+                self.words.len(),
+                link,
+                units,
+                from,
+                to,
+            )
+        }
     }
 
     pub fn add(&mut self, link: usize, key: &[u64; 6], note: u64, at: f64) {
@@ -86,7 +104,16 @@ impl Store {
     }
 
     pub fn splice(&mut self, link: usize, j: usize, part: usize, d: usize, src: &[u8]) {
-        with!(self, calls_splice, link, j, part, d, src.as_ptr(), src.len())
+        with!(
+            self,
+            calls_splice,
+            link,
+            j,
+            part,
+            d,
+            src.as_ptr(),
+            src.len()
+        )
     }
 
     pub fn append(&mut self, link: usize, j: usize, part: usize, src: &[u8]) {
@@ -115,6 +142,15 @@ impl Store {
     }
 
     pub fn read(&mut self, link: usize, j: usize, part: usize, out: &mut [u8], at: usize) -> usize {
-        with!(self, calls_read, link, j, part, out.as_mut_ptr(), out.len(), at)
+        with!(
+            self,
+            calls_read,
+            link,
+            j,
+            part,
+            out.as_mut_ptr(),
+            out.len(),
+            at
+        )
     }
 }

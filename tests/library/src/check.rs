@@ -21,7 +21,14 @@ pub struct Check {
 
 impl Check {
     pub fn new(name: &'static str, parse: Parse) -> Check {
-        Check { name, parse, cells: vec![MARK; 4 * 65_536 + 100], text: vec![0; 1 << 20], inputs: 0, records: 0 }
+        Check {
+            name,
+            parse,
+            cells: vec![MARK; 4 * 65_536 + 100],
+            text: vec![0; 1 << 20],
+            inputs: 0,
+            records: 0,
+        }
     }
 
     /// Runs the parser on room cells; the cells behind its count must be as they were.
@@ -30,15 +37,25 @@ impl Check {
             *cell = MARK;
         }
         let said = (self.parse)(b, &mut self.cells[..room]);
-        match self.cells[said.count.min(room)..room + 4].iter().all(|&c| c == MARK) {
+        match self.cells[said.count.min(room)..room + 4]
+            .iter()
+            .all(|&c| c == MARK)
+        {
             true => Ok(said),
-            false => Err(format!("cells behind the count of {} are not as they were ({room} lent)", said.count)),
+            false => Err(format!(
+                "cells behind the count of {} are not as they were ({room} lent)",
+                said.count
+            )),
         }
     }
 
     fn refused(&mut self, b: &[u8], room: usize, answer: u64) -> Result<(), String> {
         let said = self.run(b, room)?;
-        let want = Said { answer, count: 0, place: b.len() };
+        let want = Said {
+            answer,
+            count: 0,
+            place: b.len(),
+        };
         if said != want {
             return Err(format!("{room} cells lent: {said:?}, not {want:?}"));
         }
@@ -55,7 +72,11 @@ impl Check {
         let (answer, size) = print(&self.cells[..said.count], b, &mut self.text);
         let text = &self.text[..size];
         if answer != 0 || text != rust.json.as_bytes() {
-            return Err(format!("prints {answer} {}, and the Rust {}", String::from_utf8_lossy(text), rust.json));
+            return Err(format!(
+                "prints {answer} {}, and the Rust {}",
+                String::from_utf8_lossy(text),
+                rust.json
+            ));
         }
         if rooms {
             let cells = self.cells[..said.count].to_vec();
@@ -74,7 +95,9 @@ impl Check {
         self.inputs += 1;
         let found = match rust {
             _ if b.len() > 65_535 => self.refused(b, 400, 3).and_then(|()| self.refused(b, 0, 3)),
-            None => self.refused(b, 4 * b.len().min(64) + 64, 15).and_then(|()| self.refused(b, 0, 15)),
+            None => self
+                .refused(b, 4 * b.len().min(64) + 64, 15)
+                .and_then(|()| self.refused(b, 0, 15)),
             Some(rust) => {
                 self.records += 1;
                 self.whole(b, &rust, rooms)

@@ -1,14 +1,44 @@
 //! The port, through its static library.
 
 extern "C" {
-    fn atn_parse_x25(b: *const u8, nb: usize, out: *mut u64, no: usize, said: *mut u64, ns: usize) -> u64;
-    fn atn_parse_cotp(b: *const u8, nb: usize, out: *mut u64, no: usize, said: *mut u64, ns: usize) -> u64;
+    fn atn_parse_x25(
+        b: *const u8,
+        nb: usize,
+        out: *mut u64,
+        no: usize,
+        said: *mut u64,
+        ns: usize,
+    ) -> u64;
+    fn atn_parse_cotp(
+        b: *const u8,
+        nb: usize,
+        out: *mut u64,
+        no: usize,
+        said: *mut u64,
+        ns: usize,
+    ) -> u64;
     fn atn_cotp_dt_segment(b: *const u8, nb: usize, said: *mut u64, ns: usize) -> bool;
-    fn atn_parse_clnp(b: *const u8, nb: usize, out: *mut u64, no: usize, said: *mut u64, ns: usize) -> u64;
+    fn atn_parse_clnp(
+        b: *const u8,
+        nb: usize,
+        out: *mut u64,
+        no: usize,
+        said: *mut u64,
+        ns: usize,
+    ) -> u64;
     fn atn_clnp_cotp_tpdu(b: *const u8, nb: usize, said: *mut u64, ns: usize) -> u64;
     fn atn_clnp_segment(b: *const u8, nb: usize, said: *mut u64, ns: usize) -> bool;
     fn atn_clnp_addresses(b: *const u8, nb: usize, said: *mut u64, ns: usize) -> bool;
-    fn atn_print(cells: *const u64, nc: usize, b: *const u8, nb: usize, out: *mut u8, no: usize, said: *mut u64, ns: usize) -> u64;
+    fn atn_print(
+        cells: *const u64,
+        nc: usize,
+        b: *const u8,
+        nb: usize,
+        out: *mut u8,
+        no: usize,
+        said: *mut u64,
+        ns: usize,
+    ) -> u64;
 }
 
 /// What a parser answered: the number of cells, and where its part of the octets begins.
@@ -24,21 +54,60 @@ pub type Parse = fn(&[u8], &mut [u64]) -> Said;
 
 pub fn parse_x25(b: &[u8], out: &mut [u64]) -> Said {
     let mut said = [u64::MAX; 2];
-    let answer = unsafe { atn_parse_x25(b.as_ptr(), b.len(), out.as_mut_ptr(), out.len(), said.as_mut_ptr(), 2) };
-    Said { answer, count: said[0] as usize, place: said[1] as usize }
+    let answer = unsafe {
+        atn_parse_x25(
+            b.as_ptr(),
+            b.len(),
+            out.as_mut_ptr(),
+            out.len(),
+            said.as_mut_ptr(),
+            2,
+        )
+    };
+    Said {
+        answer,
+        count: said[0] as usize,
+        place: said[1] as usize,
+    }
 }
 
 /// It gives no part: the place is the end of the octets.
 pub fn parse_cotp(b: &[u8], out: &mut [u64]) -> Said {
     let mut said = [u64::MAX; 1];
-    let answer = unsafe { atn_parse_cotp(b.as_ptr(), b.len(), out.as_mut_ptr(), out.len(), said.as_mut_ptr(), 1) };
-    Said { answer, count: said[0] as usize, place: b.len() }
+    let answer = unsafe {
+        atn_parse_cotp(
+            b.as_ptr(),
+            b.len(),
+            out.as_mut_ptr(),
+            out.len(),
+            said.as_mut_ptr(),
+            1,
+        )
+    };
+    Said {
+        answer,
+        count: said[0] as usize,
+        place: b.len(),
+    }
 }
 
 pub fn parse_clnp(b: &[u8], out: &mut [u64]) -> Said {
     let mut said = [u64::MAX; 1];
-    let answer = unsafe { atn_parse_clnp(b.as_ptr(), b.len(), out.as_mut_ptr(), out.len(), said.as_mut_ptr(), 1) };
-    Said { answer, count: said[0] as usize, place: b.len() }
+    let answer = unsafe {
+        atn_parse_clnp(
+            b.as_ptr(),
+            b.len(),
+            out.as_mut_ptr(),
+            out.len(),
+            said.as_mut_ptr(),
+            1,
+        )
+    };
+    Said {
+        answer,
+        count: said[0] as usize,
+        place: b.len(),
+    }
 }
 
 /// Id, offset, total length, more bit and header length.
@@ -73,6 +142,17 @@ pub fn cotp_dt_segment(b: &[u8]) -> Option<[u64; 4]> {
 /// The answer and the length of the text.
 pub fn print(cells: &[u64], b: &[u8], out: &mut [u8]) -> (u64, usize) {
     let mut said = [u64::MAX; 1];
-    let answer = unsafe { atn_print(cells.as_ptr(), cells.len(), b.as_ptr(), b.len(), out.as_mut_ptr(), out.len(), said.as_mut_ptr(), 1) };
+    let answer = unsafe {
+        atn_print(
+            cells.as_ptr(),
+            cells.len(),
+            b.as_ptr(),
+            b.len(),
+            out.as_mut_ptr(),
+            out.len(),
+            said.as_mut_ptr(),
+            1,
+        )
+    };
     (answer, said[0] as usize)
 }

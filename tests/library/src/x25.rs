@@ -6,7 +6,10 @@ use oracle::inputs::{each, Input, Rng};
 
 fn rust(b: &[u8]) -> Option<Rust> {
     let packet = atn::parse_x25(b)?;
-    Some(Rust { json: serde_json::to_string(&packet).expect("JSON"), part: packet.payload })
+    Some(Rust {
+        json: serde_json::to_string(&packet).expect("JSON"),
+        part: packet.payload,
+    })
 }
 
 fn one(check: &mut Check, b: &[u8], rooms: bool) {
@@ -46,7 +49,11 @@ fn lengths(check: &mut Check, rng: &mut Rng) {
 /// Calls with facilities of every class up to a length of 255, SNDCF fields and user data, whole and cut anywhere.
 fn calls(check: &mut Check, rng: &mut Rng, count: usize) {
     for _ in 0..count {
-        let mut b = vec![0x10 | rng.octet() & 0xCF, rng.octet(), rng.pick(&[0x0B, 0x0F])];
+        let mut b = vec![
+            0x10 | rng.octet() & 0xCF,
+            rng.octet(),
+            rng.pick(&[0x0B, 0x0F]),
+        ];
         let digits = rng.octet();
         b.push(digits);
         b.extend(rng.octets(((digits & 15) + (digits >> 4)).div_ceil(2) as usize));
@@ -55,7 +62,11 @@ fn calls(check: &mut Check, rng: &mut Rng, count: usize) {
         while facilities.len() < most {
             let code = rng.octet();
             facilities.push(code);
-            let n = if code >> 6 == 3 { rng.below(9) } else { (code >> 6) as usize + 1 };
+            let n = if code >> 6 == 3 {
+                rng.below(9)
+            } else {
+                (code >> 6) as usize + 1
+            };
             if code >> 6 == 3 {
                 facilities.push(n as u8);
             }
@@ -66,7 +77,14 @@ fn calls(check: &mut Check, rng: &mut Rng, count: usize) {
         b.push(if rng.once_in(8) { rng.octet() } else { length });
         b.extend(facilities);
         if rng.once_in(2) {
-            b.extend([0xC1, 4 + rng.below(3) as u8, rng.pick(&[1, 1, 1, 2]), rng.octet(), rng.octet(), rng.octet()]);
+            b.extend([
+                0xC1,
+                4 + rng.below(3) as u8,
+                rng.pick(&[1, 1, 1, 2]),
+                rng.octet(),
+                rng.octet(),
+                rng.octet(),
+            ]);
         }
         b.extend(rng.few(12));
         if rng.once_in(3) {
@@ -98,5 +116,8 @@ pub fn run(seed: u64, count: usize) {
         Input::Call(_, b) => one(&mut check, &b, false),
         _ => {}
     });
-    println!("parse_x25: {} inputs, {} records, none apart", check.inputs, check.records);
+    println!(
+        "parse_x25: {} inputs, {} records, none apart",
+        check.inputs, check.records
+    );
 }
