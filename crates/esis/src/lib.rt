@@ -1,0 +1,1 @@
+// ES-IS PDUs as item records: definitions only so far (specs/Pdu.antt).
