@@ -1,6 +1,6 @@
 -- The body of an UPDATE: `parse_idrp_update`.
-use Prim.Native.Nat.{ℕ, zero, suc, _+_, _-_, _*_, _/_, max}
-use mathlib.Core.Bool.{Bool, true, false, not, _&&_, _||_}
+use Prim.Native.Nat.{ℕ, zero, suc, _+_, _-_, _*_, _/_}
+use mathlib.Core.Bool.{Bool, true, false, _&&_, _||_}
 use mathlib.Core.List.{List}
 use lib.Dec.{ltb, leb, eqb}
 use lib.ListN.{length, getD, take, drop}
@@ -10,7 +10,7 @@ use Rattle.names.specs.Ascii.{octets}
 use Rattle.names.specs.Numbers.{kWithdrawnRoutes, kPathAttributes, kType, kTypeCode, kValue, kValueHex, kNlri, kProtoType, kClnp, kPrefixes}
 use Rattle.codes.specs.Codes.{textIn, idrpAttributes}
 use Rattle.cells.specs.Items.{Items, none, leaf, group, number, flag, text, part, prefix, word, inList, _⊕_}
-use Rattle.cells.specs.Walk.{Step, stop, entry, stepOf, walkFrom, itemsFrom}
+use Rattle.cells.specs.Walk.{Step, stepOf, itemsFrom, leftFrom}
 use Rattle.cells.specs.declared.entry.Entry.{Entry}
 use Rattle.cells.specs.declared.entry.Entry.the-variants.{Stop, Body}
 
@@ -55,24 +55,15 @@ attributeAt s end i =
     pick (ltb (i + 4) end)
     (pick (leb (i + 4) (length s)) (pick (leb (i + 4 + at16 s (i + 2)) (length s)) (Body (i + 4) (at16 s (i + 2))) Stop) Stop) Stop
 
--- what a walk over them gives: their items, and the place behind the last one
-pub record Walked : Type 0 where
-  pub items : Items
-  pub place : ℕ
+abbrev pub attributeStep : ℕ → List ℕ → ℕ → Step Items
+attributeStep base s i = stepOf (λ start n. attribute base s (getD s (i + 1) 0) start n) (attributeAt s (attributesEnd s) i)
 
-pub record Attribute : Type 0 where
-  pub item : Items
-  pub next : ℕ
+abbrev pub attributeItems : ℕ → List ℕ → Items
+attributeItems base s = itemsFrom (attributeStep base s) (length s) (attributesFrom s)
 
-abbrev pub attributeStep : ℕ → List ℕ → ℕ → ℕ → Step Attribute
-attributeStep base s end i =
-    stepOf (λ start n. record { item = attribute base s (getD s (i + 1) 0) start n; next = start + n }) (attributeAt s end i)
-
-unfoldable pub attributesOf : ℕ → List ℕ → Walked
-attributesOf base s =
-    let end = attributesEnd s in
-    walkFrom (attributeStep base s end) (λ n. record { items = none; place = end - n })
-    (λ c r. record { items = c .item ⊕ r .items; place = max (c .next) (r .place) }) end (attributesFrom s)
+-- the place behind the last of them
+abbrev pub attributesPlace : List ℕ → ℕ
+attributesPlace s = length s - leftFrom (attributeStep 0 s) (length s) (attributesFrom s)
 
 -- ---- NLRI: entries up to the first that is not whole
 abbrev pub prefixAt : List ℕ → ℕ → Entry
@@ -113,19 +104,20 @@ abbrev pub routesWhole : List ℕ → Bool
 routesWhole s = leb 2 (length s) && leb (attributesFrom s) (length s)
 
 -- the attributes were walked to their end
-abbrev pub attributesWhole : List ℕ → Walked → Bool
-attributesWhole s x = leb (attributesEnd s) (x .place + 4)
+abbrev pub attributesWhole : List ℕ → Bool
+attributesWhole s = leb (attributesEnd s) (attributesPlace s + 4)
 
 abbrev pub updateReadable : List ℕ → Bool
-updateReadable s = routesWhole s && attributesWhole s (attributesOf 0 s)
+updateReadable s = routesWhole s && attributesWhole s
 
 abbrev pub routesMember : List ℕ → Items
 routesMember s = pick (eqb (withdrawn s) 0) none (group false kWithdrawnRoutes (routeItems s (withdrawn s) 2) none)
 
-abbrev pub attributesMember : List ℕ → Walked → Items
-attributesMember s x = pick (eqb (at16 s (attributesAt s)) 0) none (group false kPathAttributes (x .items) none)
+abbrev pub attributesMember : ℕ → List ℕ → Items
+attributesMember base s = pick (eqb (at16 s (attributesAt s)) 0) none (group false kPathAttributes (attributeItems base s) none)
+
+abbrev pub nlriItems : ℕ → List ℕ → Items
+nlriItems base s = itemsFrom (nlriStep base s) (length s) (attributesPlace s)
 
 unfoldable pub updateMembers : ℕ → List ℕ → Items
-updateMembers base s =
-    let x = attributesOf base s in
-    routesMember s ⊕ (attributesMember s x ⊕ inList kNlri (itemsFrom (nlriStep base s) (length s) (x .place)))
+updateMembers base s = routesMember s ⊕ (attributesMember base s ⊕ inList kNlri (nlriItems base s))
