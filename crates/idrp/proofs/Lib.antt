@@ -1,2 +1,4 @@
 pub mod Entries
 pub mod Thin
+pub mod Listed
+pub mod WellFormed

@@ -21,7 +21,7 @@ use Rattle.cells.specs.declared.entry.Entry.{Entry}
 use Rattle.cells.specs.declared.entry.Entry.the-variants.{Stop, Body}
 use Rattle.cells.proofs.Rows.{group-size, in-list-thin}
 use Rattle.cells.proofs.Walks.{Thin, thin-from, fuse, flat-walk}
-use Rattle.cells.proofs.Answers.{enough}
+use Rattle.cells.proofs.Answers.{enough, readable}
 use Rattle.fields.specs.Member.{optText}
 use Rattle.fields.proofs.Picks.{pick-elim}
 use Rattle.fields.proofs.Sizes.{size, rows, empty, one, text-thin}
@@ -198,3 +198,11 @@ idrp-thin s = record-thin s
 -- with four cells for each octet and 64 more the answer is not 10
 pub never-short : (s : List ℕ) (room : ℕ) → 4 * length s + 64 ≤ room → numberOf (answerTo (length s) (idrpCells s) room) ≡ 10 → ⊥
 never-short s room h e = enough (length s) (idrpCells s) room (omega (arith, idrp-thin s)) e
+
+-- and no input is unreadable
+pub some-cells : (s : List ℕ) → 0 < length (idrpCells s)
+unfolding idrpCells
+some-cells s = omega (arith, group-size 0 true 0 (membersOf s))
+
+pub never-unreadable : (s : List ℕ) (room : ℕ) → numberOf (answerTo (length s) (idrpCells s) room) ≡ 15 → ⊥
+never-unreadable s room = readable (length s) (idrpCells s) room (some-cells s)
