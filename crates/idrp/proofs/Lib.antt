@@ -2,3 +2,5 @@ pub mod Entries
 pub mod Thin
 pub mod Listed
 pub mod WellFormed
+pub mod Stands
+pub mod Laid
