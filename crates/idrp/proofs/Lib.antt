@@ -4,3 +4,4 @@ pub mod Listed
 pub mod WellFormed
 pub mod Stands
 pub mod Laid
+pub mod UpdateLaid
