@@ -5,3 +5,4 @@ pub mod WellFormed
 pub mod Stands
 pub mod Laid
 pub mod UpdateLaid
+pub mod ReachLaid
