@@ -6,3 +6,4 @@ pub mod Stands
 pub mod Laid
 pub mod UpdateLaid
 pub mod ReachLaid
+pub mod BodyLaid
