@@ -68,6 +68,11 @@ prefixes-stand s (p ∷ ps) rest i w =
     (part-at s (p .octets) later (i + 1) (next s (p .bits ∷ []) (p .octets ++ later) i (i + 1) refl w₂), prefixes-stand s ps rest (i + 1 + m) (next s (prefixLaid p) later i (i + 1 + m) (omega arith) w₂))
 
 -- ---- an entry
+-- a second test counts only where the first holds
+and-as : (b x y : Bool) → (b ≡ true → x ≡ y) → (b && x) ≡ (b && y)
+and-as true x y f = f refl
+and-as false x y f = refl
+
 pub reach-long : (e : Reach) → length (reachLaid e) ≡ 4 + length (e .id) + length (prefixesLaid (e .prefixes))
 reach-long e = omega (arith, length-append (e .id) (octetsOf 2 (length (prefixesLaid (e .prefixes))) ++ prefixesLaid (e .prefixes)))
 
@@ -120,11 +125,6 @@ module _ (base : ℕ) (s : List ℕ) (e : Reach) (rest : List ℕ) (i : ℕ) (w 
       let y : leb (nlriAddresses s i) (length s) ≡ true = le-leb (nlriAddresses s i) (length s) (omega (arith, a, entry-long)) in
       let z : leb (nlriAddresses s i + nlriLen s i) (length s) ≡ true = le-leb (nlriAddresses s i + nlriLen s i) (length s) (omega (arith, a, c, entry-long)) in
       λ j. pick (x j) (pick (y j) (pick (z j) (Body (a j) (c j)) Stop) Stop) Stop
-
-  -- the octet behind an id of one octet is not asked for
-  and-as : (b : Bool) (x y : Bool) → (b ≡ true → x ≡ y) → (b && x) ≡ (b && y)
-  and-as true x y f = f refl
-  and-as false x y f = refl
 
   clnp-is : isClnp s i ≡ clnpReach e
   clnp-is =
