@@ -56,6 +56,14 @@ fn payload_at(x: Packet, n: usize, a: Answer) -> usize
     }
 }
 
+// The record alone.
+pub fn x25_record(b: &[u8], out: &mut [u64]) -> Answer
+    ensures { λ r. ⌜ Parsed (length (now (b .entry))) (x25Cells (now (b .entry))) (now (out .entry)) r (now (out .exit)) ⌝ }
+{
+    let x = read(b);
+    answer_on(x, b, out)
+}
+
 // The answer's number, the count of cells, and the payload as a part of the octets.
 pub fn parse_x25<'a>(b: &'a [u8], out: &mut [u64], answer: &mut u64, count: &mut usize) -> &'a [u8]
     ensures { λ r. ⌜ ParsedX25 (now (b .entry)) (now (out .entry)) (now (answer .exit)) (now (count .exit)) (now (out .exit)) (now r) ⌝ }
