@@ -1,0 +1,6 @@
+pub mod Addresses
+pub mod Options
+pub mod Records
+pub mod Thin
+pub mod Says
+pub mod Determined
