@@ -2,7 +2,8 @@
 use Prim.Native.Nat.{ℕ, zero, suc, _+_, _*_, _≤_, _<_, _-_}
 use mathlib.Core.List.{[], _++_}
 use mathlib.Core.Path.{_≡_, refl, _∙_, ap, sym, subst}
-use native.Mathlib.Nat.{add-zero, add-suc, suc-add, mul-add}
+use native.Mathlib.Nat.{add-zero, add-suc, suc-add, mul-add, lt-of-not-le}
+use native.Mathlib.Decide.{decLe}
 use native.Mathlib.Omega.{arith}
 use Rattle.cells.specs.Items.{Items, none, _⊕_, flat}
 use Rattle.cells.specs.Walk.{Step, stop, entry, onStep, walkBy, walkFrom, itemsFrom, cellsFrom}
@@ -86,9 +87,6 @@ sub-none n = omega arith
 sub-both : (n k : ℕ) → n - k ≡ suc n - suc k
 sub-both n k = omega arith
 
-sub-zero-twice : (n : ℕ) → n - 0 - 0 ≡ n
-sub-zero-twice n = omega arith
-
 -- how much a walk gives: no entry gives more than m for each of its octets, so the walk does not
 module _ {E : Type 0} (f : ℕ → Step E) (weight : E → ℕ) (m size : ℕ) where
   abbrev pub Thin : ℕ → Step E → Type 0
@@ -117,11 +115,15 @@ module _ {E : Type 0} (f : ℕ → Step E) (weight : E → ℕ) (m size : ℕ) w
         let z : m * (n - k) ≡ m * (suc n - suc k) = ap (λ (x : ℕ). m * x) (sub-both n k) in
         omega (arith, thin-by n (suc i) k (omega arith) (omega arith), z)
 
-    pub thin : walkFrom f (λ n. 0) (λ c r. weight c + r) size 0 ≤ m * size
+    pub thin-from : (i : ℕ) → walkFrom f (λ n. 0) (λ c r. weight c + r) size i ≤ m * (size - i)
     unfolding walkFrom
-    thin =
-        let z : size - 0 ≡ size = omega arith in
-        subst (λ (n : ℕ). sum 0 (size - 0) 0 ≤ m * n) (sub-zero-twice size) (thin-by (size - 0) 0 0 (omega arith) (omega arith))
+    thin-from i = elim (decLe i size) [
+      | yes l ↦ subst (λ (n : ℕ). sum i (size - i) 0 ≤ m * n) (sym (sub-none (size - i))) (thin-by (size - i) i 0 (omega arith) (omega arith))
+      | no l ↦ let e = over f (λ n. 0) (λ c r. weight c + r) size i (omega (arith, lt-of-not-le l)) in omega (arith, e)
+    ]
+
+    pub thin : walkFrom f (λ n. 0) (λ c r. weight c + r) size 0 ≤ m * size
+    thin = subst (λ (n : ℕ). walkFrom f (λ n. 0) (λ c r. weight c + r) size 0 ≤ m * n) (sym (sub-none size)) (thin-from 0)
 
 -- what holds of a walk's end, and goes on over each entry, holds of the walk
 module _ {E R : Type 0} (f : ℕ → Step E) (ends : ℕ → R) (more : E → R → R) (size : ℕ) (P : R → Type 0) (Q : E → Type 0)
@@ -140,6 +142,12 @@ module _ {E R : Type 0} (f : ℕ → Step E) (ends : ℕ → R) (more : E → R 
   all-by q (suc n) i zero h = all-step (f i) i (suc n) (λ d. walkBy f ends more (suc i) n d) (q i (omega arith)) (λ d. all-by q n (suc i) d (omega arith))
   all-by q (suc n) i (suc k) h = all-by q n (suc i) k (omega arith)
 
-  pub all : ((i : ℕ) → i < size → Each (f i)) → P (walkFrom f ends more size 0)
+  pub all-from : ((i : ℕ) → i < size → Each (f i)) → (i : ℕ) → P (walkFrom f ends more size i)
   unfolding walkFrom
-  all q = all-by q (size - 0) 0 0 (omega arith)
+  all-from q i = elim (decLe i size) [
+    | yes l ↦ all-by q (size - i) i 0 (omega arith)
+    | no l ↦ subst P (sym (over f ends more size i (omega (arith, lt-of-not-le l)))) (pe 0)
+  ]
+
+  pub all : ((i : ℕ) → i < size → Each (f i)) → P (walkFrom f ends more size 0)
+  all q = all-from q 0

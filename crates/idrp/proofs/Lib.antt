@@ -1,0 +1,11 @@
+pub mod Members
+pub mod Entries
+pub mod Routes
+pub mod Attributes
+pub mod Prefixes
+pub mod Nlris
+pub mod Updates
+pub mod Records
+pub mod Thin
+pub mod Says
+pub mod Determined
