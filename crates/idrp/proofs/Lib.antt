@@ -1,6 +1,15 @@
 pub mod Entries
-pub mod Thin
 pub mod Listed
+pub mod Routes
+pub mod Attributes
+pub mod Prefixes
+pub mod Nlris
+pub mod Updates
+pub mod Members
+pub mod Records
+pub mod Thin
+pub mod Says
+pub mod Determined
 pub mod WellFormed
 pub mod Stands
 pub mod Laid
