@@ -4,3 +4,4 @@ pub mod Records
 pub mod Thin
 pub mod Says
 pub mod Determined
+pub mod WellFormed
