@@ -1,8 +1,8 @@
 -- Path attributes: their values by type and length, the walk over them, and the member.
 use Prim.Native.Nat.{ℕ, _+_, _-_, _≤_, _<_}
-use mathlib.Core.Path.{_≡_, refl, sym, ap, subst, _∙_}
+use mathlib.Core.Path.{_≡_, sym, ap, subst, _∙_}
 use mathlib.Core.List.{List, [], _++_}
-use mathlib.Core.Bool.{Bool, true, false, _&&_}
+use mathlib.Core.Bool.{true, false, _&&_}
 use native.Mathlib.Omega.{arith}
 use borrow.Author.Tests.{eq-eqb, ne-eqb, eqb-true, lt-ltb, le-ltb}
 use lib.Dec.{ltb, eqb}
@@ -11,7 +11,7 @@ use Rattle.octets.specs.Text.{pick}
 use Rattle.octets.proofs.Tests.{and-right}
 use Rattle.names.specs.Numbers.{kValue, kValueHex, kPathAttributes}
 use Rattle.cells.specs.Items.{Items, none, leaf, group, number, part, flat}
-use Rattle.cells.specs.Walk.{Step, stop, entry, stepOf, leftFrom, cellsFrom}
+use Rattle.cells.specs.Walk.{stop, entry, stepOf, leftFrom, cellsFrom}
 use Rattle.cells.specs.declared.entry.Entry.the-variants.{Stop, Body}
 use Rattle.cells.proofs.Walks.{turn, done, over}
 use Rattle.fields.proofs.Picks.{pick-yes, pick-no}

@@ -8,8 +8,8 @@ use native.Mathlib.Nat.{lt-of-not-le}
 use native.Mathlib.Omega.{arith}
 use borrow.Author.Tests.{leb-true}
 use lib.Dec.{leb}
-use lib.ListN.{length, getD, take, drop}
-use Rattle.names.specs.Numbers.{kNlri, kPrefixes}
+use lib.ListN.{length, take, drop}
+use Rattle.names.specs.Numbers.{kNlri}
 use Rattle.cells.specs.Items.{Items, none, group, inList, flat, _⊕_}
 use Rattle.cells.specs.Walk.{stepOf, itemsFrom, cellsFrom}
 use Rattle.cells.specs.declared.entry.Entry.{Entry}

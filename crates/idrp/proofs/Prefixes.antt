@@ -1,11 +1,11 @@
 -- Address prefixes: the walk over them.
 use Prim.Native.Nat.{ℕ, _+_, _≤_, _<_}
-use mathlib.Core.Path.{_≡_, refl, ap, subst}
+use mathlib.Core.Path.{_≡_, ap, subst}
 use mathlib.Core.List.{List, [], _++_}
 use native.Mathlib.Omega.{arith}
 use lib.ListN.{length, getD}
-use Rattle.cells.specs.Items.{Items, none, leaf, prefix, flat}
-use Rattle.cells.specs.Walk.{stop, entry, stepOf, cellsFrom}
+use Rattle.cells.specs.Items.{none, leaf, prefix, flat}
+use Rattle.cells.specs.Walk.{stepOf, cellsFrom}
 use Rattle.cells.specs.declared.entry.Entry.the-variants.{Stop, Body}
 use Rattle.cells.proofs.Walks.{turn, done, over}
 use Rattle.idrp.specs.Update.{prefixAt, prefixStep}

@@ -1,5 +1,5 @@
 -- The body of an UPDATE: whether it is readable, and its members.
-use Prim.Native.Nat.{ℕ, _+_, _*_, _≤_, _<_}
+use Prim.Native.Nat.{ℕ, _+_, _≤_, _<_}
 use mathlib.Core.Path.{_≡_, refl, sym, ap, _∙_}
 use mathlib.Core.List.{List}
 use mathlib.Core.Bool.{Bool, true, false, _&&_}
@@ -9,9 +9,9 @@ use lib.Dec.{leb}
 use lib.ListN.{length}
 use Rattle.octets.proofs.Tests.{and-left, and-right}
 use Rattle.names.specs.Numbers.{kNlri}
-use Rattle.cells.specs.Items.{Items, inList, _⊕_}
+use Rattle.cells.specs.Items.{inList, _⊕_}
 use Rattle.cells.specs.Walk.{itemsFrom}
-use Rattle.idrp.specs.Update.{withdrawn, attributesAt, attributesFrom, attributesEnd, attributesPlace, nlriStep, nlriItems, routesWhole, attributesWhole, updateReadable, routesMember, attributesMember, updateMembers}
+use Rattle.idrp.specs.Update.{attributesAt, attributesFrom, attributesEnd, attributesPlace, nlriStep, nlriItems, routesWhole, attributesWhole, updateReadable, routesMember, attributesMember, updateMembers}
 
 -- ---- readable
 module _ (s : List ℕ) where

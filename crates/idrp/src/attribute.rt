@@ -40,7 +40,7 @@ pub fn attributes_end(s: &[u8], p: usize) -> usize
 }
 
 // What stands at position i: the value may run past the attributes' end, but not past the body's.
-pub fn attribute_at(s: &[u8], end: usize, i: usize) -> Entry
+fn attribute_at(s: &[u8], end: usize, i: usize) -> Entry
     requires { ⌜ i ≤ length (now s) ⌝ }
     ensures { λ r. ⌜ r ≡ attributeAt (now (s .entry)) end i ⌝ }
 {
@@ -66,16 +66,16 @@ pub fn attributes_place(s: &[u8], p: usize) -> usize
     ensures { λ r. ⌜ (r ≡ attributesPlace (now (s .entry))) × (r ≤ length (now (s .entry))) ⌝ }
 {
     let end = attributes_end(s, p);
-    let mut i = p + 2;
-    while i < s.len() {
-        match attribute_at(s, end, i) {
-            Entry::Stop => return i,
+    let mut place = p + 2;
+    while place < s.len() {
+        match attribute_at(s, end, place) {
+            Entry::Stop => return place,
             Entry::Body { start, len } => {
-                i = start + len;
+                place = start + len;
             }
         }
     }
-    i
+    place
 }
 
 // The types whose one octet is a number.
@@ -137,7 +137,7 @@ fn put_attribute(
 }
 
 // The attributes of a body that stands at place base of the input; their length is at p.
-pub fn attributes(out: &mut [u64], at: usize, base: usize, s: &[u8], p: usize) -> usize
+fn attributes(out: &mut [u64], at: usize, base: usize, s: &[u8], p: usize) -> usize
     requires { ⌜ (p ≡ attributesAt (now s)) × (p + 2 ≤ length (now s)) × (base + length (now s) < 65536) ⌝ }
     ensures { λ r. ⌜ Emits (now (out .entry)) at (flat 3 (attributeItems base (now (s .entry)))) (now (out .exit)) r ⌝ }
 {

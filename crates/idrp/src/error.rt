@@ -1,5 +1,4 @@
 // The body of an ERROR.
-ghost use mathlib.Core.Path.{_≡_};
 ghost use Prim.Native.Nat.{_<_};
 ghost use lib.ListN.{length};
 ghost use Rattle.octets.specs.Emit.{Emits};

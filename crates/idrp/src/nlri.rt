@@ -22,7 +22,7 @@ use names::key::PROTO_TYPE;
 use octets::read::wide;
 
 // The addresses of the entry at position i: a protocol id and the addresses, each behind its length.
-pub fn nlri_at(s: &[u8], i: usize) -> Entry
+fn nlri_at(s: &[u8], i: usize) -> Entry
     requires { ⌜ i ≤ length (now s) ⌝ }
     ensures { λ r. ⌜ r ≡ nlriAt (now (s .entry)) i ⌝ }
 {
@@ -80,7 +80,7 @@ fn put_entry(
 }
 
 // The entries from a place of a body on, which stands at place base of the input.
-pub fn entries(out: &mut [u64], at: usize, base: usize, s: &[u8], from: usize) -> usize
+fn entries(out: &mut [u64], at: usize, base: usize, s: &[u8], from: usize) -> usize
     requires { ⌜ (from ≤ length (now s)) × (base + length (now s) < 65536) ⌝ }
     ensures { λ r. ⌜ Emits (now (out .entry)) at (flat 3 (itemsFrom (nlriStep base (now (s .entry))) (length (now (s .entry))) from)) (now (out .exit)) r ⌝ }
 {

@@ -1,4 +1,4 @@
-// Numbers at a place of a body.
+// Numbers at a place, most significant octet first.
 ghost use mathlib.Core.Path.{_≡_};
 ghost use Prim.Native.Nat.{_+_, _<_, _≤_};
 ghost use lib.ListN.{length, getD};

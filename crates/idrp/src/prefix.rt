@@ -15,7 +15,7 @@ use names::key::PREFIXES;
 use octets::read::wide;
 
 // What stands at position i: a count of bits, and the octets that hold them.
-pub fn prefix_at(s: &[u8], i: usize) -> Entry
+fn prefix_at(s: &[u8], i: usize) -> Entry
     requires { ⌜ i < length (now s) ⌝ }
     ensures { λ r. ⌜ r ≡ prefixAt (now (s .entry)) i ⌝ }
 {
@@ -31,7 +31,7 @@ pub fn prefix_at(s: &[u8], i: usize) -> Entry
 }
 
 // The prefixes of a part that stands at place base of the input.
-pub fn prefixes(out: &mut [u64], at: usize, base: usize, s: &[u8]) -> usize
+fn prefixes(out: &mut [u64], at: usize, base: usize, s: &[u8]) -> usize
     requires { ⌜ base + length (now s) < 65536 ⌝ }
     ensures { λ r. ⌜ Emits (now (out .entry)) at (flat 5 (prefixItems base (now (s .entry)))) (now (out .exit)) r ⌝ }
 {

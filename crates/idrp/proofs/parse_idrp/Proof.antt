@@ -1,68 +1,51 @@
 use borrow.Author.Needs.{needs}
 use Rattle.idrp.proofs.parse_idrp.Statement.{statement}
 use Rattle.idrp.proofs.parse_idrp.Tie as tie
-use Rattle.idrp.proofs.parse_idrp.Reads as reads
-use Rattle.idrp.proofs.parse_idrp.Lts as lts
-use Rattle.idrp.proofs.record.put_record.Reads as put-record-reads
 use Rattle.cells.proofs.Answers.{too-long, no-front}
 use Rattle.idrp.proofs.Says.{says-once, says-short, says-whole}
 
--- src/lib.rt:24:9
 returns : tie.Need-returns
 returns c = too-long (c .if1 .taken)
 
--- src/lib.rt:26:8
 mul-if2 : tie.Need-mul-if2
 mul-if2 c = search needs
 
--- src/lib.rt:26:8
 add-if2 : tie.Need-add-if2
 add-if2 c = search needs
 
--- src/lib.rt:27:13
 put-record-requires : tie.Need-put-record-requires
 put-record-requires c κs = search needs
 
--- src/lib.rt:28:9
 same-length : tie.Need-same-length
 same-length c = search needs
 
--- src/lib.rt:28:9
 returns-2 : tie.Need-returns-2
 returns-2 c = let a = c .before .before .before .before .before .before .before .before .args in says-once (a .b .now) (a .out .now) (c .before .before .before .before .before .if1 .left) (c .before .before .before .before .if2 .taken) (search needs) (c .before .before .put-record .ensures)
 
--- src/lib.rt:30:27
 slice-relend-prefix-put-record : tie.Need-slice-relend-prefix-put-record
 slice-relend-prefix-put-record c = search needs
 
--- src/lib.rt:30:27
 slice-aggregate-put-record : tie.Need-slice-aggregate-put-record
 slice-aggregate-put-record c = search needs
 
--- src/lib.rt:30:9
 put-record-requires-2 : tie.Need-put-record-requires-2
 put-record-requires-2 c κs = search needs
 
--- src/lib.rt:32:9
 same-length-2 : tie.Need-same-length-2
 same-length-2 c = search needs
 
--- src/lib.rt:32:9
 returns-3 : tie.Need-returns-3
 returns-3 c =
     let a = c .before .before .before .before .before .before .before .before .before .args in
     let z = no-front (c .before .before .before .put-record2 .last .0) (a .out .now) (c .before .before .before .put-record2 .kept .0) in
     says-short (a .b .now) (a .out .now) (c .before .before .before .before .before .before .if1 .left) z (rw z at (c .if3 .taken)) (c .before .before .before .put-record2 .ensures)
 
--- src/lib.rt:34:5
 put-record-requires-3 : tie.Need-put-record-requires-3
 put-record-requires-3 c κs = search needs
 
--- src/lib.rt:19:1
 same-length-3 : tie.Need-same-length-3
 same-length-3 c = search needs
 
--- src/lib.rt:19:1
 returns-4 : tie.Need-returns-4
 returns-4 c =
     let a = c .before .before .before .before .before .before .before .before .before .before .before .before .before .args in

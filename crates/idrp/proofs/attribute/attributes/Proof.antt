@@ -1,10 +1,5 @@
 use Rattle.idrp.proofs.attribute.attributes.Statement.{statement}
 use Rattle.idrp.proofs.attribute.attributes.Tie as tie
-use Rattle.idrp.proofs.attribute.attributes.Reads as reads
-use Rattle.idrp.proofs.attribute.attributes.Lts as lts
-use Rattle.idrp.proofs.attribute.attribute_at.Reads as attribute-at-reads
-use Rattle.idrp.proofs.attribute.attributes_end.Reads as attributes-end-reads
-use Rattle.idrp.proofs.attribute.put_attribute.Reads as put-attribute-reads
 use borrow.Author.Needs.{needs}
 use Prim.Native.Nat.{ℕ, _+_, _-_, _≤_}
 use mathlib.Core.Path.{_≡_, refl, sym, ap, _∙_}
@@ -36,64 +31,50 @@ found c =
     let e : attributeAt s (c .before .before .before .before .before .attributes-end .result) i ≡ Body (c .start .given .0 .0) (c .start .given .0 .1 .0) = sym (c .before .before .attribute-at .ensures) ∙ c .start .given .1 in
     (e, whole-at s (c .before .before .before .before .before .attributes-end .result) i e)
 
--- src/attribute.rt:144:9
 attributes-end-requires : tie.Need-attributes-end-requires Inv-loop μ-loop
 attributes-end-requires c κs = (c .before .before .pre .0, c .before .before .pre .1)
 
--- src/attribute.rt:145:17
 add-i : tie.Need-add-i Inv-loop μ-loop
 add-i c = search needs
 
--- src/attribute.rt:147:5
 loop-holds : tie.Need-loop-holds Inv-loop μ-loop
 loop-holds c =
     let a = c .before .before .before .args in
     (refl, c .before .before .before .pre .1, search needs, λ p n e. emits-as (ap (λ (k : ℕ). cellsFrom 3 (attributeStep (a .base) (a .s .now)) (length (a .s .now)) (k + 2)) (c .before .before .before .pre .0)) e)
 
--- src/attribute.rt:148:15
 attribute-at-requires : tie.Need-attribute-at-requires Inv-loop μ-loop
 attribute-at-requires c κs = search needs
 
--- src/attribute.rt:149:28
 enum-told : tie.Need-enum-told Inv-loop μ-loop
 enum-told c = search needs
 
--- src/attribute.rt:149:28
 same-length : tie.Need-same-length Inv-loop μ-loop
 same-length c = search needs
 
--- src/attribute.rt:149:28
 returns : tie.Need-returns Inv-loop μ-loop
 returns c =
     let a = c .before .before .before .before .before .before .before .before .args in
     let e = sym (c .before .before .attribute-at .ensures) ∙ c .enum-told .given .1 in
     rw flat-walk (finish (c .before .before .before .before .loop .inv .3) (cells-stop (a .s .now) (c .before .before .before .before .before .attributes-end .result) (c .before .before .before .before .before .attributes-end .ensures) (a .base) (c .before .before .before .before .loop .i) (c .before .before .before .loop-test .taken) e) (search needs) (search needs))
 
--- src/attribute.rt:150:27
 enum-known-start : tie.Need-enum-known-start Inv-loop μ-loop
 enum-known-start c = search needs
 
--- src/attribute.rt:151:60
 add-put-attribute : tie.Need-add-put-attribute Inv-loop μ-loop
 add-put-attribute c = omega (arith, found (c .before .before) .1 .0, found (c .before .before) .1 .1)
 
--- src/attribute.rt:151:58
 shared-slice-read-put-attribute : tie.Need-shared-slice-read-put-attribute Inv-loop μ-loop
 shared-slice-read-put-attribute c = omega (arith, found (c .before .before .before) .1 .0, found (c .before .before .before) .1 .1)
 
--- src/attribute.rt:151:17
 put-attribute-requires : tie.Need-put-attribute-requires Inv-loop μ-loop
 put-attribute-requires c κs = (found (c .before .before .before) .1 .1, c .before .before .before .before .before .before .before .before .before .before .before .pre .2)
 
--- src/attribute.rt:152:21
 add-i-2 : tie.Need-add-i-2 Inv-loop μ-loop
 add-i-2 c = omega (arith, found (c .before .before .before .before .before .before) .1 .1)
 
--- src/attribute.rt:147:5
 loop-less : tie.Need-loop-less Inv-loop μ-loop
 loop-less c = omega (arith, found (c .before .before .before .before .before .before) .1 .0, found (c .before .before .before .before .before .before) .1 .1)
 
--- src/attribute.rt:147:5
 loop-again : tie.Need-loop-again Inv-loop μ-loop
 loop-again c =
     let p = c .before .before .before .before .before .before in
@@ -108,11 +89,9 @@ loop-again c =
           (cells-turn (a .s .now) (c .before .before .before .before .before .before .before .before .before .before .before .attributes-end .result) (c .before .before .before .before .before .before .before .before .before .before .before .attributes-end .ensures) (a .base) (l .loop .i) (p .start .given .0 .0) (p .start .given .0 .1 .0) (c .before .before .before .before .before .before .before .before .before .loop-test .taken) (w .0)),
     )
 
--- src/attribute.rt:140:1
 same-length-2 : tie.Need-same-length-2 Inv-loop μ-loop
 same-length-2 c = search needs
 
--- src/attribute.rt:140:1
 returns-2 : tie.Need-returns-2 Inv-loop μ-loop
 returns-2 c =
     let a = c .before .before .before .before .before .args in

@@ -1,24 +1,17 @@
 use borrow.Author.Needs.{needs}
 use Rattle.idrp.proofs.attribute.attributes_end.Statement.{statement}
 use Rattle.idrp.proofs.attribute.attributes_end.Tie as tie
-use Rattle.idrp.proofs.attribute.attributes_end.Reads as reads
-use Rattle.idrp.proofs.attribute.attributes_end.Lts as lts
-use Rattle.idrp.proofs.octet.two_at.Reads as two-at-reads
 use Rattle.idrp.proofs.Attributes.{end-is}
 
--- src/attribute.rt:38:9
 two-at-requires : tie.Need-two-at-requires
 two-at-requires c κs = search needs
 
--- src/attribute.rt:39:5
 add-result : tie.Need-add-result
 add-result c = search needs
 
--- src/attribute.rt:39:5
 add-result-2 : tie.Need-add-result-2
 add-result-2 c = search needs
 
--- src/attribute.rt:34:1
 returns : tie.Need-returns
 returns c = end-is (c .before .before .args .s .now) (c .before .before .args .p) (c .before .before .pre .0) (c .two-at .result) (c .two-at .ensures .0)
 

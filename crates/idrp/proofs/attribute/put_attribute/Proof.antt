@@ -1,14 +1,6 @@
 use borrow.Author.Needs.{needs}
 use Rattle.idrp.proofs.attribute.put_attribute.Statement.{statement}
 use Rattle.idrp.proofs.attribute.put_attribute.Tie as tie
-use Rattle.idrp.proofs.attribute.put_attribute.Reads as reads
-use Rattle.idrp.proofs.attribute.put_attribute.Lts as lts
-use Rattle.cells.proofs.emit.close_group.Reads as close-group-reads
-use Rattle.cells.proofs.emit.open_object.Reads as open-object-reads
-use Rattle.cells.proofs.emit.put_number.Reads as put-number-reads
-use Rattle.cells.proofs.emit.put_text_number.Reads as put-text-number-reads
-use Rattle.codes.proofs.idrp_attr_name.Reads as idrp-attr-name-reads
-use Rattle.idrp.proofs.attribute.put_value.Reads as put-value-reads
 use mathlib.Core.Bool.{true}
 use Rattle.names.specs.Ascii.{octets}
 use Rattle.names.specs.Numbers.{kType, kTypeCode}
@@ -17,35 +9,27 @@ use Rattle.cells.specs.Items.{Items, none, leaf, text, number, _⊕_}
 use Rattle.cells.proofs.Rows.{around, then-row}
 use Rattle.idrp.specs.Update.{attributeValue}
 
--- src/attribute.rt:132:9
 open-object-requires : tie.Need-open-object-requires
 open-object-requires c κs = search needs
 
--- src/attribute.rt:133:55
 idrp-attr-name-requires : tie.Need-idrp-attr-name-requires
 idrp-attr-name-requires c κs = search needs
 
--- src/attribute.rt:133:9
 put-text-number-requires : tie.Need-put-text-number-requires
 put-text-number-requires c κs = search needs
 
--- src/attribute.rt:134:9
 put-number-requires : tie.Need-put-number-requires
 put-number-requires c κs = search needs
 
--- src/attribute.rt:135:9
 put-value-requires : tie.Need-put-value-requires
 put-value-requires c κs = search needs
 
--- src/attribute.rt:136:5
 close-group-requires : tie.Need-close-group-requires
 close-group-requires c κs = search needs
 
--- src/attribute.rt:120:1
 same-length : tie.Need-same-length
 same-length c = search needs
 
--- src/attribute.rt:120:1
 returns : tie.Need-returns
 returns c =
     let a = c .before .before .before .before .before .before .before .before .before .before .before .before .before .before .before .before .before .before .before .before .before .before .before .args in

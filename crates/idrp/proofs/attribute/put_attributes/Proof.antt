@@ -1,12 +1,6 @@
 use borrow.Author.Needs.{needs}
 use Rattle.idrp.proofs.attribute.put_attributes.Statement.{statement}
 use Rattle.idrp.proofs.attribute.put_attributes.Tie as tie
-use Rattle.idrp.proofs.attribute.put_attributes.Reads as reads
-use Rattle.idrp.proofs.attribute.put_attributes.Lts as lts
-use Rattle.cells.proofs.emit.close_group.Reads as close-group-reads
-use Rattle.cells.proofs.emit.open_list.Reads as open-list-reads
-use Rattle.idrp.proofs.attribute.attributes.Reads as attributes-reads
-use Rattle.idrp.proofs.octet.two_at.Reads as two-at-reads
 use mathlib.Core.Bool.{false}
 use Rattle.octets.proofs.Emits.{nothing}
 use Rattle.names.specs.Numbers.{kPathAttributes}
@@ -15,33 +9,26 @@ use Rattle.idrp.specs.Update.{attributeItems}
 use Rattle.idrp.proofs.Members.{row-as}
 use Rattle.idrp.proofs.Attributes.{no-attributes, some-attributes}
 
--- src/attribute.rt:164:9
 two-at-requires : tie.Need-two-at-requires
 two-at-requires c κs = search needs
 
--- src/attribute.rt:166:9
 returns : tie.Need-returns
 returns c =
     let a = c .before .before .before .before .args in
     row-as 2 (no-attributes (a .base) (a .s .now) (a .p) (c .before .before .before .before .pre .0) (c .before .two-at .result) (c .before .two-at .ensures .0) (c .if1 .taken)) (rw flat-none (nothing _ _ (search needs) (search needs)))
 
--- src/attribute.rt:168:9
 open-list-requires : tie.Need-open-list-requires
 open-list-requires c κs = search needs
 
--- src/attribute.rt:169:9
 attributes-requires : tie.Need-attributes-requires
 attributes-requires c κs = search needs
 
--- src/attribute.rt:170:5
 close-group-requires : tie.Need-close-group-requires
 close-group-requires c κs = search needs
 
--- src/attribute.rt:160:1
 same-length : tie.Need-same-length
 same-length c = search needs
 
--- src/attribute.rt:160:1
 returns-2 : tie.Need-returns-2
 returns-2 c =
     let a = c .before .before .before .before .before .before .before .before .before .before .before .before .before .before .before .before .args in

@@ -1,11 +1,6 @@
 use borrow.Author.Needs.{needs}
 use Rattle.idrp.proofs.attribute.put_value.Statement.{statement}
 use Rattle.idrp.proofs.attribute.put_value.Tie as tie
-use Rattle.idrp.proofs.attribute.put_value.Reads as reads
-use Rattle.idrp.proofs.attribute.put_value.Lts as lts
-use Rattle.cells.proofs.emit.put_hex_part.Reads as put-hex-part-reads
-use Rattle.cells.proofs.emit.put_number.Reads as put-number-reads
-use Rattle.idrp.proofs.attribute.numbered.Reads as numbered-reads
 use mathlib.Core.Path.{_∙_, sym}
 use native.Mathlib.Omega.{arith}
 use Rattle.octets.proofs.Emits.{nothing}
@@ -13,51 +8,40 @@ use Rattle.cells.proofs.Rows.{flat-none}
 use Rattle.idrp.proofs.Members.{row-as}
 use Rattle.idrp.proofs.Attributes.{number-one, is-number, is-octets, no-value}
 
--- src/attribute.rt:111:8
 numbered-requires : tie.Need-numbered-requires
 numbered-requires c κs = search needs
 
--- src/attribute.rt:112:46
 shared-slice-read-put-number : tie.Need-shared-slice-read-put-number
 shared-slice-read-put-number c = omega (arith, c .before .before .before .before .before .before .pre .0, number-one (c .before .before .before .before .before .before .args .t) (c .before .before .before .before .before .before .args .n) (sym (c .before .before .before .numbered .ensures) ∙ c .before .before .if1 .taken))
 
--- src/attribute.rt:112:46
 cast-put-number : tie.Need-cast-put-number
 cast-put-number c = record { fits = omega (arith, c .shared-slice-known2 .given (c .before .before .before .before .before .before .args .i) .fits) }
 
--- src/attribute.rt:112:9
 put-number-requires : tie.Need-put-number-requires
 put-number-requires c κs = search needs
 
--- src/attribute.rt:112:9
 same-length : tie.Need-same-length
 same-length c = search needs
 
--- src/attribute.rt:112:9
 returns : tie.Need-returns
 returns c =
     let a = c .before .before .before .before .before .before .before .before .before .args in
     row-as 4 (is-number (a .base) (a .s .now) (a .t) (a .i) (a .n) (sym (c .before .before .before .before .before .before .numbered .ensures) ∙ c .before .before .before .before .before .if1 .taken)) (c .before .before .put-number .ensures)
 
--- src/attribute.rt:115:52
 add-put-hex-part : tie.Need-add-put-hex-part
 add-put-hex-part c = search needs
 
--- src/attribute.rt:115:9
 put-hex-part-requires : tie.Need-put-hex-part-requires
 put-hex-part-requires c κs = search needs
 
--- src/attribute.rt:115:9
 same-length-2 : tie.Need-same-length-2
 same-length-2 c = search needs
 
--- src/attribute.rt:115:9
 returns-2 : tie.Need-returns-2
 returns-2 c =
     let a = c .before .before .before .before .before .before .before .before .before .args in
     row-as 4 (is-octets (a .base) (a .s .now) (a .t) (a .i) (a .n) (sym (c .before .before .before .before .before .before .numbered .ensures) ∙ c .before .before .before .before .before .if1 .left) (c .before .before .before .before .if2 .taken)) (c .before .before .put-hex-part .ensures)
 
--- src/attribute.rt:107:1
 returns-3 : tie.Need-returns-3
 returns-3 c =
     let a = c .before .before .before .before .before .args in

@@ -1,23 +1,17 @@
 use Rattle.idrp.proofs.attribute.shown.Statement.{statement}
 use Rattle.idrp.proofs.attribute.shown.Tie as tie
-use Rattle.idrp.proofs.attribute.shown.Reads as reads
-use Rattle.idrp.proofs.attribute.shown.Lts as lts
 use native.Mathlib.Omega.{arith}
 use borrow.Author.Tests.{le-leb, lt-leb, eq-eqb, ne-eqb}
 
--- src/attribute.rt:87:13
 returns : tie.Need-returns
 returns c = simp (le-leb _ _ (c .before .if1 .taken), le-leb _ _ (c .if2 .taken))
 
--- src/attribute.rt:90:13
 returns-2 : tie.Need-returns-2
 returns-2 c = simp (le-leb _ _ (c .before .before .if1 .taken), lt-leb _ _ (c .before .if2 .left), eq-eqb _ _ (c .if3 .taken))
 
--- src/attribute.rt:92:9
 returns-3 : tie.Need-returns-3
 returns-3 c = simp (le-leb _ _ (c .before .before .if1 .taken), lt-leb _ _ (c .before .if2 .left), ne-eqb _ _ (c .if3 .left))
 
--- src/attribute.rt:82:1
 returns-4 : tie.Need-returns-4
 returns-4 c =
     let t = c .before .args .t in

@@ -1,13 +1,6 @@
 use borrow.Author.Needs.{needs}
 use Rattle.idrp.proofs.error.put_error.Statement.{statement}
 use Rattle.idrp.proofs.error.put_error.Tie as tie
-use Rattle.idrp.proofs.error.put_error.Reads as reads
-use Rattle.idrp.proofs.error.put_error.Lts as lts
-use Rattle.cells.proofs.emit.put_number.Reads as put-number-reads
-use Rattle.cells.proofs.emit.put_text_number.Reads as put-text-number-reads
-use Rattle.codes.proofs.idrp_error_code_name.Reads as idrp-error-code-name-reads
-use Rattle.codes.proofs.idrp_error_subcode_name.Reads as idrp-error-subcode-name-reads
-use Rattle.fields.proofs.member.put_text_if.Reads as put-text-if-reads
 use mathlib.Core.List.{[]}
 use native.Mathlib.Omega.{arith}
 use lib.ListN.{getD}
@@ -20,31 +13,24 @@ use Rattle.fields.specs.Member.{optText}
 use Rattle.idrp.proofs.Members.{row-as}
 use Rattle.idrp.proofs.Records.{no-sub, with-sub, subOf}
 
--- src/error.rt:22:16
 shared-slice-read-code : tie.Need-shared-slice-read-code
 shared-slice-read-code c = search needs
 
--- src/error.rt:23:52
 cast-put-number : tie.Need-cast-put-number
 cast-put-number c = record { fits = omega (arith, c .before .shared-slice-known2 .given 0 .fits) }
 
--- src/error.rt:23:9
 put-number-requires : tie.Need-put-number-requires
 put-number-requires c κs = search needs
 
--- src/error.rt:24:55
 idrp-error-code-name-requires : tie.Need-idrp-error-code-name-requires
 idrp-error-code-name-requires c κs = search needs
 
--- src/error.rt:24:9
 put-text-number-requires : tie.Need-put-text-number-requires
 put-text-number-requires c κs = search needs
 
--- src/error.rt:26:9
 same-length : tie.Need-same-length
 same-length c = search needs
 
--- src/error.rt:26:9
 returns : tie.Need-returns
 returns c =
     let s = c .before .before .before .before .before .before .before .before .before .before .before .before .before .args .s .now in
@@ -52,31 +38,24 @@ returns c =
     let name : Items = leaf kError (text (textIn idrpErrors (octets "?") (getD s 0 0))) none in
     row-as 1 (no-sub s (c .if1 .taken)) (then-row 1 code name (c .before .before .before .before .before .before .before .before .put-number .ensures) (rw (c .before .before .before .before .idrp-error-code-name .ensures) at (c .before .before .before .put-text-number .ensures)))
 
--- src/error.rt:28:15
 shared-slice-read-sub : tie.Need-shared-slice-read-sub
 shared-slice-read-sub c = search needs
 
--- src/error.rt:29:57
 cast-put-number-2 : tie.Need-cast-put-number-2
 cast-put-number-2 c = record { fits = omega (arith, c .before .shared-slice-known3 .given 1 .fits) }
 
--- src/error.rt:29:9
 put-number-requires-2 : tie.Need-put-number-requires-2
 put-number-requires-2 c κs = search needs
 
--- src/error.rt:35:9
 idrp-error-subcode-name-requires : tie.Need-idrp-error-subcode-name-requires
 idrp-error-subcode-name-requires c κs = search needs
 
--- src/error.rt:30:5
 put-text-if-requires : tie.Need-put-text-if-requires
 put-text-if-requires c κs = search needs
 
--- src/error.rt:18:1
 same-length-2 : tie.Need-same-length-2
 same-length-2 c = search needs
 
--- src/error.rt:18:1
 returns-2 : tie.Need-returns-2
 returns-2 c =
     let s = c .before .before .before .before .before .before .before .before .before .before .before .before .before .before .before .before .before .before .before .before .before .before .before .args .s .now in

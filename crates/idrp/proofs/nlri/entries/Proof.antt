@@ -1,9 +1,5 @@
 use Rattle.idrp.proofs.nlri.entries.Statement.{statement}
 use Rattle.idrp.proofs.nlri.entries.Tie as tie
-use Rattle.idrp.proofs.nlri.entries.Reads as reads
-use Rattle.idrp.proofs.nlri.entries.Lts as lts
-use Rattle.idrp.proofs.nlri.nlri_at.Reads as nlri-at-reads
-use Rattle.idrp.proofs.nlri.put_entry.Reads as put-entry-reads
 use borrow.Author.Needs.{needs}
 use Prim.Native.Nat.{_+_, _-_, _≤_, _<_}
 use mathlib.Core.Path.{_≡_, refl, sym, _∙_}
@@ -35,46 +31,36 @@ found c =
     let e : nlriAt s i ≡ Body (c .start .given .0 .0) (c .start .given .0 .1 .0) = sym (c .before .before .nlri-at .ensures) ∙ c .start .given .1 in
     (e, whole-at s i e)
 
--- src/nlri.rt:89:5
 loop-holds : tie.Need-loop-holds Inv-loop μ-loop
 loop-holds c = (refl, c .before .before .pre .0, search needs, λ p n e. e)
 
--- src/nlri.rt:90:15
 nlri-at-requires : tie.Need-nlri-at-requires Inv-loop μ-loop
 nlri-at-requires c κs = search needs
 
--- src/nlri.rt:91:28
 enum-told : tie.Need-enum-told Inv-loop μ-loop
 enum-told c = search needs
 
--- src/nlri.rt:91:28
 same-length : tie.Need-same-length Inv-loop μ-loop
 same-length c = search needs
 
--- src/nlri.rt:91:28
 returns : tie.Need-returns Inv-loop μ-loop
 returns c =
     let a = c .before .before .before .before .before .before .before .args in
     let e = sym (c .before .before .nlri-at .ensures) ∙ c .enum-told .given .1 in
     rw flat-walk (finish (c .before .before .before .before .loop .inv .3) (cells-stop (a .base) (a .s .now) (c .before .before .before .before .loop .i) (c .before .before .before .loop-test .taken) e) (search needs) (search needs))
 
--- src/nlri.rt:92:27
 enum-known-start : tie.Need-enum-known-start Inv-loop μ-loop
 enum-known-start c = search needs
 
--- src/nlri.rt:93:17
 put-entry-requires : tie.Need-put-entry-requires Inv-loop μ-loop
 put-entry-requires c κs = (found (c .before .before) .1 .0, found (c .before .before) .1 .2, c .before .before .before .before .before .before .before .before .before .pre .1)
 
--- src/nlri.rt:94:21
 add-i : tie.Need-add-i Inv-loop μ-loop
 add-i c = omega (arith, found (c .before .before .before .before .before) .1 .2)
 
--- src/nlri.rt:89:5
 loop-less : tie.Need-loop-less Inv-loop μ-loop
 loop-less c = omega (arith, found (c .before .before .before .before .before) .1 .1, found (c .before .before .before .before .before) .1 .2)
 
--- src/nlri.rt:89:5
 loop-again : tie.Need-loop-again Inv-loop μ-loop
 loop-again c =
     let p = c .before .before .before .before .before in
@@ -88,11 +74,9 @@ loop-again c =
       onward (l .loop .inv .3) put (cells-turn (a .base) (a .s .now) (l .loop .i) (p .start .given .0 .0) (p .start .given .0 .1 .0) (c .before .before .before .before .before .before .before .before .loop-test .taken) (w .0)),
     )
 
--- src/nlri.rt:83:1
 same-length-2 : tie.Need-same-length-2 Inv-loop μ-loop
 same-length-2 c = search needs
 
--- src/nlri.rt:83:1
 returns-2 : tie.Need-returns-2 Inv-loop μ-loop
 returns-2 c =
     let a = c .before .before .before .before .args in

@@ -1,44 +1,32 @@
 use borrow.Author.Needs.{needs}
 use Rattle.idrp.proofs.nlri.is_clnp.Statement.{statement}
 use Rattle.idrp.proofs.nlri.is_clnp.Tie as tie
-use Rattle.idrp.proofs.nlri.is_clnp.Reads as reads
-use Rattle.idrp.proofs.nlri.is_clnp.Lts as lts
-use mathlib.Core.Bool.{Bool, true, false, _&&_}
 use borrow.Author.Tests.{eq-eqb, ne-eqb}
 
--- src/nlri.rt:51:8
 shared-slice-read-if1 : tie.Need-shared-slice-read-if1
 shared-slice-read-if1 c = search needs
 
--- src/nlri.rt:52:9
 returns : tie.Need-returns
 returns c = simp (ne-eqb _ _ (c .if1 .taken))
 
--- src/nlri.rt:54:10
 add-if2 : tie.Need-add-if2
 add-if2 c = search needs
 
--- src/nlri.rt:54:8
 shared-slice-read-if2 : tie.Need-shared-slice-read-if2
 shared-slice-read-if2 c = search needs
 
--- src/nlri.rt:55:9
 returns-2 : tie.Need-returns-2
 returns-2 c = simp (eq-eqb _ _ (c .before .before .if1 .left), ne-eqb _ _ (c .if2 .taken))
 
--- src/nlri.rt:57:10
 add-if3 : tie.Need-add-if3
 add-if3 c = search needs
 
--- src/nlri.rt:57:8
 shared-slice-read-if3 : tie.Need-shared-slice-read-if3
 shared-slice-read-if3 c = search needs
 
--- src/nlri.rt:58:9
 returns-3 : tie.Need-returns-3
 returns-3 c = simp (eq-eqb _ _ (c .before .before .before .before .if1 .left), eq-eqb _ _ (c .before .before .if2 .left), ne-eqb _ _ (c .if3 .taken))
 
--- src/nlri.rt:47:1
 returns-4 : tie.Need-returns-4
 returns-4 c = simp (eq-eqb _ _ (c .before .before .before .before .if1 .left), eq-eqb _ _ (c .before .before .if2 .left), eq-eqb _ _ (c .if3 .left))
 

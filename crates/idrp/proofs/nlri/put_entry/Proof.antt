@@ -1,14 +1,6 @@
 use borrow.Author.Needs.{needs}
 use Rattle.idrp.proofs.nlri.put_entry.Statement.{statement}
 use Rattle.idrp.proofs.nlri.put_entry.Tie as tie
-use Rattle.idrp.proofs.nlri.put_entry.Reads as reads
-use Rattle.idrp.proofs.nlri.put_entry.Lts as lts
-use Rattle.cells.proofs.emit.close_group.Reads as close-group-reads
-use Rattle.cells.proofs.emit.open_object.Reads as open-object-reads
-use Rattle.cells.proofs.emit.put_flag.Reads as put-flag-reads
-use Rattle.cells.proofs.emit.put_number.Reads as put-number-reads
-use Rattle.idrp.proofs.nlri.is_clnp.Reads as is-clnp-reads
-use Rattle.idrp.proofs.prefix.put_prefixes.Reads as put-prefixes-reads
 use Prim.Native.Nat.{_+_}
 use mathlib.Core.Bool.{true, false}
 use mathlib.Core.Path.{ap}
@@ -22,63 +14,48 @@ use Rattle.idrp.specs.Update.{isClnp, prefixItems}
 use Rattle.idrp.proofs.Members.{row-as}
 use Rattle.idrp.proofs.Nlris.{addresses}
 
--- src/nlri.rt:75:9
 open-object-requires : tie.Need-open-object-requires
 open-object-requires c κs = search needs
 
--- src/nlri.rt:76:56
 shared-slice-read-put-number : tie.Need-shared-slice-read-put-number
 shared-slice-read-put-number c = search needs
 
--- src/nlri.rt:76:56
 cast-put-number : tie.Need-cast-put-number
 cast-put-number c = record { fits = omega (arith, c .shared-slice-known2 .given (c .before .before .before .before .before .before .before .before .args .i) .fits) }
 
--- src/nlri.rt:76:9
 put-number-requires : tie.Need-put-number-requires
 put-number-requires c κs = search needs
 
--- src/nlri.rt:77:46
 is-clnp-requires : tie.Need-is-clnp-requires
 is-clnp-requires c κs = search needs
 
--- src/nlri.rt:77:9
 put-flag-requires : tie.Need-put-flag-requires
 put-flag-requires c κs = search needs
 
--- src/nlri.rt:78:41
 add-put-prefixes : tie.Need-add-put-prefixes
 add-put-prefixes c = search needs
 
--- src/nlri.rt:78:65
 add-put-prefixes-2 : tie.Need-add-put-prefixes-2
 add-put-prefixes-2 c = search needs
 
--- src/nlri.rt:78:55
 sub-put-prefixes : tie.Need-sub-put-prefixes
 sub-put-prefixes c = search needs
 
--- src/nlri.rt:78:55
 part-put-prefixes-start : tie.Need-part-put-prefixes-start
 part-put-prefixes-start c = search needs
 
--- src/nlri.rt:78:55
 part-put-prefixes-end : tie.Need-part-put-prefixes-end
 part-put-prefixes-end c = search needs
 
--- src/nlri.rt:78:9
 put-prefixes-requires : tie.Need-put-prefixes-requires
 put-prefixes-requires c κs = search needs
 
--- src/nlri.rt:79:5
 close-group-requires : tie.Need-close-group-requires
 close-group-requires c κs = search needs
 
--- src/nlri.rt:63:1
 same-length : tie.Need-same-length
 same-length c = search needs
 
--- src/nlri.rt:63:1
 returns : tie.Need-returns
 returns c =
     let a = c .before .before .before .before .before .before .before .before .before .before .before .before .before .before .before .before .before .before .before .before .before .before .before .before .before .args in

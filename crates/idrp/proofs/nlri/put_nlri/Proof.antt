@@ -1,12 +1,6 @@
 use borrow.Author.Needs.{needs}
 use Rattle.idrp.proofs.nlri.put_nlri.Statement.{statement}
 use Rattle.idrp.proofs.nlri.put_nlri.Tie as tie
-use Rattle.idrp.proofs.nlri.put_nlri.Reads as reads
-use Rattle.idrp.proofs.nlri.put_nlri.Lts as lts
-use Rattle.cells.proofs.emit.close_group.Reads as close-group-reads
-use Rattle.cells.proofs.emit.open_list.Reads as open-list-reads
-use Rattle.idrp.proofs.nlri.entries.Reads as entries-reads
-use Rattle.idrp.proofs.nlri.nlri_at.Reads as nlri-at-reads
 use mathlib.Core.Path.{_∙_, sym}
 use mathlib.Core.Bool.{false}
 use Rattle.names.specs.Numbers.{kNlri}
@@ -14,41 +8,32 @@ use Rattle.octets.proofs.Emits.{nothing}
 use Rattle.cells.proofs.Rows.{around, flat-none}
 use Rattle.idrp.proofs.Nlris.{itemsAt, no-first, some-entry}
 
--- src/nlri.rt:106:11
 nlri-at-requires : tie.Need-nlri-at-requires
 nlri-at-requires c κs = search needs
 
--- src/nlri.rt:107:24
 enum-told : tie.Need-enum-told
 enum-told c = search needs
 
--- src/nlri.rt:109:36
 enum-told-2 : tie.Need-enum-told-2
 enum-told-2 c = search needs
 
--- src/nlri.rt:109:17
 open-list-requires : tie.Need-open-list-requires
 open-list-requires c κs = search needs
 
--- src/nlri.rt:110:17
 entries-requires : tie.Need-entries-requires
 entries-requires c κs = search needs
 
--- src/nlri.rt:111:13
 close-group-requires : tie.Need-close-group-requires
 close-group-requires c κs = search needs
 
--- src/nlri.rt:102:1
 returns : tie.Need-returns
 returns c =
     let a = c .before .before .before .before .before .args in
     rw (no-first (a .base) (a .s .now) (a .from) (sym (c .before .before .nlri-at .ensures) ∙ c .enum-told .given .1), flat-none) (nothing _ _ (search needs) (search needs))
 
--- src/nlri.rt:102:1
 same-length : tie.Need-same-length
 same-length c = search needs
 
--- src/nlri.rt:102:1
 returns-2 : tie.Need-returns-2
 returns-2 c =
     let a = c .before .before .before .before .before .before .before .before .before .before .before .before .before .before .before .before .before .args in

@@ -1,12 +1,6 @@
 use borrow.Author.Needs.{needs}
 use Rattle.idrp.proofs.open.put_open.Statement.{statement}
 use Rattle.idrp.proofs.open.put_open.Tie as tie
-use Rattle.idrp.proofs.open.put_open.Reads as reads
-use Rattle.idrp.proofs.open.put_open.Lts as lts
-use Rattle.cells.proofs.emit.put_hex_part.Reads as put-hex-part-reads
-use Rattle.cells.proofs.emit.put_number.Reads as put-number-reads
-use Rattle.octets.proofs.read.u16_of.Reads as u16-of-reads
-use Rattle.octets.proofs.read.wide.Reads as wide-reads
 use native.Mathlib.Omega.{arith}
 use Prim.Native.Nat.{_+_}
 use lib.ListN.{getD}
@@ -17,83 +11,63 @@ use Rattle.cells.proofs.Rows.{then-row}
 use Rattle.idrp.proofs.Members.{row-as}
 use Rattle.idrp.proofs.Records.{with-rdi, no-rdi}
 
--- src/open.rt:21:51
 shared-slice-read-put-number : tie.Need-shared-slice-read-put-number
 shared-slice-read-put-number c = search needs
 
--- src/open.rt:21:51
 cast-put-number : tie.Need-cast-put-number
 cast-put-number c = record { fits = omega (arith, c .shared-slice-known2 .given 0 .fits) }
 
--- src/open.rt:21:9
 put-number-requires : tie.Need-put-number-requires
 put-number-requires c κs = search needs
 
--- src/open.rt:22:64
 shared-slice-read-u16-of : tie.Need-shared-slice-read-u16-of
 shared-slice-read-u16-of c = search needs
 
--- src/open.rt:22:70
 shared-slice-read-u16-of-2 : tie.Need-shared-slice-read-u16-of-2
 shared-slice-read-u16-of-2 c = search needs
 
--- src/open.rt:22:57
 u16-of-requires : tie.Need-u16-of-requires
 u16-of-requires c κs = search needs
 
--- src/open.rt:22:57
 cast-put-number-2 : tie.Need-cast-put-number-2
 cast-put-number-2 c = search needs
 
--- src/open.rt:22:9
 put-number-requires-2 : tie.Need-put-number-requires-2
 put-number-requires-2 c κs = search needs
 
--- src/open.rt:23:62
 shared-slice-read-u16-of-3 : tie.Need-shared-slice-read-u16-of-3
 shared-slice-read-u16-of-3 c = search needs
 
--- src/open.rt:23:68
 shared-slice-read-u16-of-4 : tie.Need-shared-slice-read-u16-of-4
 shared-slice-read-u16-of-4 c = search needs
 
--- src/open.rt:23:55
 u16-of-requires-2 : tie.Need-u16-of-requires-2
 u16-of-requires-2 c κs = search needs
 
--- src/open.rt:23:55
 cast-put-number-3 : tie.Need-cast-put-number-3
 cast-put-number-3 c = search needs
 
--- src/open.rt:23:9
 put-number-requires-3 : tie.Need-put-number-requires-3
 put-number-requires-3 c κs = search needs
 
--- src/open.rt:24:18
 shared-slice-read-wide : tie.Need-shared-slice-read-wide
 shared-slice-read-wide c = search needs
 
--- src/open.rt:24:9
 wide-requires : tie.Need-wide-requires
 wide-requires c κs = search needs
 
--- src/open.rt:25:8
 add-if1 : tie.Need-add-if1
 add-if1 c = search needs
 
--- src/open.rt:26:52
 add-put-hex-part : tie.Need-add-put-hex-part
 add-put-hex-part c = search needs
 
--- src/open.rt:26:9
 put-hex-part-requires : tie.Need-put-hex-part-requires
 put-hex-part-requires c κs = search needs
 
--- src/open.rt:26:9
 same-length : tie.Need-same-length
 same-length c = search needs
 
--- src/open.rt:26:9
 returns : tie.Need-returns
 returns c =
     let a = c .before .before .before .before .before .before .before .before .before .before .before .before .before .before .before .before .before .before .before .before .before .before .before .before .before .before .before .before .args in
@@ -107,11 +81,9 @@ returns c =
     (then-row 2 version (hold ⊕ (size ⊕ rdi)) (c .before .before .before .before .before .before .before .before .before .before .before .before .before .before .before .before .before .before .before .before .before .before .before .put-number .ensures) (then-row 2 hold (size ⊕ rdi) (rw (c .before .before .before .before .before .before .before .before .before .before .before .before .before .before .before .before .before .u16-of .ensures) at (c .before .before .before .before .before .before .before .before .before .before .before .before .before .before .before .before .put-number2 .ensures))
     (then-row 2 size rdi (rw (c .before .before .before .before .before .before .before .before .before .before .u16-of2 .ensures) at (c .before .before .before .before .before .before .before .before .before .put-number3 .ensures)) (c .before .before .put-hex-part .ensures))))
 
--- src/open.rt:17:1
 same-length-2 : tie.Need-same-length-2
 same-length-2 c = search needs
 
--- src/open.rt:17:1
 returns-2 : tie.Need-returns-2
 returns-2 c =
     let a = c .before .before .before .before .before .before .before .before .before .before .before .before .before .before .before .before .before .before .before .before .before .before .before .before .args in

@@ -1,41 +1,29 @@
 use borrow.Author.Needs.{needs}
 use Rattle.idrp.proofs.prefix.prefix_at.Statement.{statement}
 use Rattle.idrp.proofs.prefix.prefix_at.Tie as tie
-use Rattle.idrp.proofs.prefix.prefix_at.Reads as reads
-use Rattle.idrp.proofs.prefix.prefix_at.Lts as lts
-use Rattle.octets.proofs.read.wide.Reads as wide-reads
-use mathlib.Core.Path.{refl}
 use borrow.Author.Tests.{le-leb, lt-leb}
 
--- src/prefix.rt:22:21
 shared-slice-read-wide : tie.Need-shared-slice-read-wide
 shared-slice-read-wide c = search needs
 
--- src/prefix.rt:22:9
 wide-requires : tie.Need-wide-requires
 wide-requires c κs = search needs
 
--- src/prefix.rt:23:14
 add-n : tie.Need-add-n
 add-n c = search needs
 
--- src/prefix.rt:24:8
 add-if1 : tie.Need-add-if1
 add-if1 c = search needs
 
--- src/prefix.rt:24:8
 add-if1-2 : tie.Need-add-if1-2
 add-if1-2 c = search needs
 
--- src/prefix.rt:26:20
 add-t11 : tie.Need-add-t11
 add-t11 c = search needs
 
--- src/prefix.rt:25:9
 returns : tie.Need-returns
 returns c = simp (← (c .before .wide .ensures .0), le-leb _ _ (c .if1 .taken))
 
--- src/prefix.rt:18:1
 returns-2 : tie.Need-returns-2
 returns-2 c = simp (← (c .before .wide .ensures .0), lt-leb _ _ (c .if1 .left))
 

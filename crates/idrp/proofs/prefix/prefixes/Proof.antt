@@ -1,9 +1,5 @@
 use Rattle.idrp.proofs.prefix.prefixes.Statement.{statement}
 use Rattle.idrp.proofs.prefix.prefixes.Tie as tie
-use Rattle.idrp.proofs.prefix.prefixes.Reads as reads
-use Rattle.idrp.proofs.prefix.prefixes.Lts as lts
-use Rattle.cells.proofs.emit.put_prefix.Reads as put-prefix-reads
-use Rattle.idrp.proofs.prefix.prefix_at.Reads as prefix-at-reads
 use borrow.Author.Needs.{needs}
 use Prim.Native.Nat.{_+_, _-_, _≤_}
 use mathlib.Core.Path.{_≡_, refl, sym, _∙_}
@@ -35,54 +31,42 @@ found c =
     let e : prefixAt s i ≡ Body (c .start .given .0 .0) (c .start .given .0 .1 .0) = sym (c .before .before .prefix-at .ensures) ∙ c .start .given .1 in
     (e, whole-at s i e)
 
--- src/prefix.rt:40:5
 loop-holds : tie.Need-loop-holds Inv-loop μ-loop
 loop-holds c = (refl, omega arith, search needs, λ p n e. e)
 
--- src/prefix.rt:41:15
 prefix-at-requires : tie.Need-prefix-at-requires Inv-loop μ-loop
 prefix-at-requires c κs = search needs
 
--- src/prefix.rt:42:28
 enum-told : tie.Need-enum-told Inv-loop μ-loop
 enum-told c = search needs
 
--- src/prefix.rt:42:28
 same-length : tie.Need-same-length Inv-loop μ-loop
 same-length c = search needs
 
--- src/prefix.rt:42:28
 returns : tie.Need-returns Inv-loop μ-loop
 returns c =
     let a = c .before .before .before .before .before .before .before .args in
     let e = sym (c .before .before .prefix-at .ensures) ∙ c .enum-told .given .1 in
     rw flat-walk (finish (c .before .before .before .before .loop .inv .3) (cells-stop (a .base) (a .s .now) (c .before .before .before .before .loop .i) (c .before .before .before .loop-test .taken) e) (search needs) (search needs))
 
--- src/prefix.rt:43:27
 enum-known-start : tie.Need-enum-known-start Inv-loop μ-loop
 enum-known-start c = search needs
 
--- src/prefix.rt:44:52
 add-put-prefix : tie.Need-add-put-prefix Inv-loop μ-loop
 add-put-prefix c = omega (arith, found (c .before .before) .1 .1, c .before .before .before .before .before .before .before .before .before .pre)
 
--- src/prefix.rt:44:71
 shared-slice-read-put-prefix : tie.Need-shared-slice-read-put-prefix Inv-loop μ-loop
 shared-slice-read-put-prefix c = search needs
 
--- src/prefix.rt:44:17
 put-prefix-requires : tie.Need-put-prefix-requires Inv-loop μ-loop
 put-prefix-requires c κs = (omega arith, omega (arith, found (c .before .before .before) .1 .1, c .before .before .before .before .before .before .before .before .before .before .pre))
 
--- src/prefix.rt:45:21
 add-i : tie.Need-add-i Inv-loop μ-loop
 add-i c = omega (arith, found (c .before .before .before .before .before .before) .1 .1)
 
--- src/prefix.rt:40:5
 loop-less : tie.Need-loop-less Inv-loop μ-loop
 loop-less c = omega (arith, found (c .before .before .before .before .before .before) .1 .0, found (c .before .before .before .before .before .before) .1 .1)
 
--- src/prefix.rt:40:5
 loop-again : tie.Need-loop-again Inv-loop μ-loop
 loop-again c =
     let p = c .before .before .before .before .before .before in
@@ -96,11 +80,9 @@ loop-again c =
       onward (l .loop .inv .3) put (cells-turn (a .base) (a .s .now) (l .loop .i) (p .start .given .0 .0) (p .start .given .0 .1 .0) (c .before .before .before .before .before .before .before .before .before .loop-test .taken) (w .0)),
     )
 
--- src/prefix.rt:34:1
 same-length-2 : tie.Need-same-length-2 Inv-loop μ-loop
 same-length-2 c = search needs
 
--- src/prefix.rt:34:1
 returns-2 : tie.Need-returns-2 Inv-loop μ-loop
 returns-2 c =
     let a = c .before .before .before .before .args in

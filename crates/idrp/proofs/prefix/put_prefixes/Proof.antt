@@ -1,33 +1,23 @@
 use borrow.Author.Needs.{needs}
 use Rattle.idrp.proofs.prefix.put_prefixes.Statement.{statement}
 use Rattle.idrp.proofs.prefix.put_prefixes.Tie as tie
-use Rattle.idrp.proofs.prefix.put_prefixes.Reads as reads
-use Rattle.idrp.proofs.prefix.put_prefixes.Lts as lts
-use Rattle.cells.proofs.emit.close_group.Reads as close-group-reads
-use Rattle.cells.proofs.emit.open_list.Reads as open-list-reads
-use Rattle.idrp.proofs.prefix.prefixes.Reads as prefixes-reads
 use mathlib.Core.Bool.{false}
 use Rattle.names.specs.Numbers.{kPrefixes}
 use Rattle.cells.proofs.Rows.{around}
 use Rattle.idrp.specs.Update.{prefixItems}
 
--- src/prefix.rt:56:9
 open-list-requires : tie.Need-open-list-requires
 open-list-requires c κs = search needs
 
--- src/prefix.rt:57:9
 prefixes-requires : tie.Need-prefixes-requires
 prefixes-requires c κs = search needs
 
--- src/prefix.rt:58:5
 close-group-requires : tie.Need-close-group-requires
 close-group-requires c κs = search needs
 
--- src/prefix.rt:52:1
 same-length : tie.Need-same-length
 same-length c = search needs
 
--- src/prefix.rt:52:1
 returns : tie.Need-returns
 returns c = around 4 false kPrefixes (prefixItems (c .before .before .before .before .before .before .before .before .before .before .before .before .before .before .args .base) (c .before .before .before .before .before .before .before .before .before .before .before .before .before .before .args .s .now)) (c .before .before .before .before .before .before .before .before .before .before .open-list .ensures) (c .before .before .before .before .before .before .prefixes .ensures) (c .before .before .close-group .ensures)
 

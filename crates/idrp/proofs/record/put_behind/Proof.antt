@@ -1,46 +1,35 @@
 use borrow.Author.Needs.{needs}
 use Rattle.idrp.proofs.record.put_behind.Statement.{statement}
 use Rattle.idrp.proofs.record.put_behind.Tie as tie
-use Rattle.idrp.proofs.record.put_behind.Reads as reads
-use Rattle.idrp.proofs.record.put_behind.Lts as lts
-use Rattle.idrp.proofs.record.put_body.Reads as put-body-reads
 use lib.ListN.{getD}
 use Rattle.octets.proofs.Emits.{nothing}
 use Rattle.cells.proofs.Rows.{flat-none}
 use Rattle.idrp.proofs.Members.{row-as}
 use Rattle.idrp.proofs.Records.{no-body, the-body}
 
--- src/record.rt:80:9
 returns : tie.Need-returns
 returns c =
     let s = c .before .before .before .args .b .now in
     row-as 1 (no-body (getD s 3 0) s (c .if1 .taken)) (rw flat-none (nothing _ _ (search needs) (search needs)))
 
--- src/record.rt:82:23
 shared-slice-read-put-body : tie.Need-shared-slice-read-put-body
 shared-slice-read-put-body c = search needs
 
--- src/record.rt:82:29
 sub-put-body : tie.Need-sub-put-body
 sub-put-body c = search needs
 
--- src/record.rt:82:29
 part-put-body-start : tie.Need-part-put-body-start
 part-put-body-start c = search needs
 
--- src/record.rt:82:29
 part-put-body-end : tie.Need-part-put-body-end
 part-put-body-end c = search needs
 
--- src/record.rt:82:5
 put-body-requires : tie.Need-put-body-requires
 put-body-requires c κs = search needs
 
--- src/record.rt:75:1
 same-length : tie.Need-same-length
 same-length c = search needs
 
--- src/record.rt:75:1
 returns-2 : tie.Need-returns-2
 returns-2 c = let s = c .before .before .before .before .before .before .before .before .before .args .b .now in row-as 1 (the-body (getD s 3 0) s) (c .before .before .put-body .ensures)
 

@@ -1,53 +1,38 @@
 use borrow.Author.Needs.{needs}
 use Rattle.idrp.proofs.record.put_body.Statement.{statement}
 use Rattle.idrp.proofs.record.put_body.Tie as tie
-use Rattle.idrp.proofs.record.put_body.Reads as reads
-use Rattle.idrp.proofs.record.put_body.Lts as lts
-use Rattle.idrp.proofs.error.put_error.Reads as put-error-reads
-use Rattle.idrp.proofs.record.put_opening.Reads as put-opening-reads
-use Rattle.idrp.proofs.record.put_updating.Reads as put-updating-reads
 use Rattle.octets.proofs.Emits.{nothing}
 use Rattle.cells.proofs.Rows.{flat-none}
 use Rattle.idrp.proofs.Members.{row-as}
 use Rattle.idrp.proofs.Records.{as-typed, is-error, untyped}
 
--- src/record.rt:64:9
 put-opening-requires : tie.Need-put-opening-requires
 put-opening-requires c κs = search needs
 
--- src/record.rt:64:9
 same-length : tie.Need-same-length
 same-length c = search needs
 
--- src/record.rt:64:9
 returns : tie.Need-returns
 returns c = let a = c .before .before .before .before .before .before .before .args in row-as 1 (as-typed (a .s .now) (c .before .before .before .before .before .before .before .pre .0) (a .t) 1 (c .before .before .before .before .if1 .taken)) (c .before .before .put-opening .ensures)
 
--- src/record.rt:67:9
 put-updating-requires : tie.Need-put-updating-requires
 put-updating-requires c κs = search needs
 
--- src/record.rt:67:9
 same-length-2 : tie.Need-same-length-2
 same-length-2 c = search needs
 
--- src/record.rt:67:9
 returns-2 : tie.Need-returns-2
 returns-2 c = let a = c .before .before .before .before .before .before .before .before .args in row-as 1 (as-typed (a .s .now) (c .before .before .before .before .before .before .before .before .pre .0) (a .t) 2 (c .before .before .before .before .if2 .taken)) (c .before .before .put-updating .ensures)
 
--- src/record.rt:70:9
 put-error-requires : tie.Need-put-error-requires
 put-error-requires c κs = search needs
 
--- src/record.rt:70:9
 same-length-3 : tie.Need-same-length-3
 same-length-3 c = search needs
 
--- src/record.rt:70:9
 returns-3 : tie.Need-returns-3
 returns-3 c = let a = c .before .before .before .before .before .before .before .before .before .args in row-as 1 (is-error (a .s .now) (c .before .before .before .before .before .before .before .before .before .pre .0) (a .t) (c .before .before .before .before .if3 .taken)) (c .before .before .put-error .ensures)
 
--- src/record.rt:59:1
 returns-4 : tie.Need-returns-4
 returns-4 c =
     let a = c .before .before .before .before .before .args in

@@ -1,48 +1,36 @@
 use borrow.Author.Needs.{needs}
 use Rattle.idrp.proofs.record.put_credit.Statement.{statement}
 use Rattle.idrp.proofs.record.put_credit.Tie as tie
-use Rattle.idrp.proofs.record.put_credit.Reads as reads
-use Rattle.idrp.proofs.record.put_credit.Lts as lts
-use Rattle.cells.proofs.emit.put_number.Reads as put-number-reads
 use native.Mathlib.Omega.{arith}
 use Rattle.octets.proofs.Emits.{nothing}
 use Rattle.cells.proofs.Rows.{then-row, flat-none}
 use Rattle.idrp.proofs.Members.{row-as}
 use Rattle.idrp.proofs.Records.{no-credit, with-credit, offeredOf, availOf}
 
--- src/record.rt:99:9
 returns : tie.Need-returns
 returns c = row-as 1 (no-credit (c .before .before .before .args .b .now) (c .if1 .taken)) (rw flat-none (nothing _ _ (search needs) (search needs)))
 
--- src/record.rt:101:58
 shared-slice-read-put-number : tie.Need-shared-slice-read-put-number
 shared-slice-read-put-number c = search needs
 
--- src/record.rt:101:58
 cast-put-number : tie.Need-cast-put-number
 cast-put-number c = record { fits = omega (arith, c .shared-slice-known2 .given 12 .fits) }
 
--- src/record.rt:101:9
 put-number-requires : tie.Need-put-number-requires
 put-number-requires c κs = search needs
 
--- src/record.rt:102:47
 shared-slice-read-put-number-2 : tie.Need-shared-slice-read-put-number-2
 shared-slice-read-put-number-2 c = search needs
 
--- src/record.rt:102:47
 cast-put-number-2 : tie.Need-cast-put-number-2
 cast-put-number-2 c = record { fits = omega (arith, c .shared-slice-known3 .given 13 .fits) }
 
--- src/record.rt:102:5
 put-number-requires-2 : tie.Need-put-number-requires-2
 put-number-requires-2 c κs = search needs
 
--- src/record.rt:95:1
 same-length : tie.Need-same-length
 same-length c = search needs
 
--- src/record.rt:95:1
 returns-2 : tie.Need-returns-2
 returns-2 c =
     let s = c .before .before .before .before .before .before .before .before .before .before .before .before .before .args .b .now in

@@ -1,40 +1,29 @@
 use borrow.Author.Needs.{needs}
 use Rattle.idrp.proofs.record.put_numbers.Statement.{statement}
 use Rattle.idrp.proofs.record.put_numbers.Tie as tie
-use Rattle.idrp.proofs.record.put_numbers.Reads as reads
-use Rattle.idrp.proofs.record.put_numbers.Lts as lts
-use Rattle.cells.proofs.emit.put_number.Reads as put-number-reads
-use Rattle.idrp.proofs.octet.four_at.Reads as four-at-reads
 use Rattle.octets.proofs.Emits.{nothing}
 use Rattle.cells.proofs.Rows.{then-row, flat-none}
 use Rattle.idrp.proofs.Members.{row-as}
 use Rattle.idrp.proofs.Records.{no-numbers, with-numbers, sequenceOf, ackOf}
 
--- src/record.rt:89:9
 returns : tie.Need-returns
 returns c = row-as 1 (no-numbers (c .before .before .before .args .b .now) (c .if1 .taken)) (rw flat-none (nothing _ _ (search needs) (search needs)))
 
--- src/record.rt:91:53
 four-at-requires : tie.Need-four-at-requires
 four-at-requires c κs = search needs
 
--- src/record.rt:91:9
 put-number-requires : tie.Need-put-number-requires
 put-number-requires c κs = search needs
 
--- src/record.rt:92:39
 four-at-requires-2 : tie.Need-four-at-requires-2
 four-at-requires-2 c κs = search needs
 
--- src/record.rt:92:5
 put-number-requires-2 : tie.Need-put-number-requires-2
 put-number-requires-2 c κs = search needs
 
--- src/record.rt:85:1
 same-length : tie.Need-same-length
 same-length c = search needs
 
--- src/record.rt:85:1
 returns-2 : tie.Need-returns-2
 returns-2 c =
     let s = c .before .before .before .before .before .before .before .before .before .before .before .before .before .args .b .now in

@@ -1,11 +1,6 @@
 use borrow.Author.Needs.{needs}
 use Rattle.idrp.proofs.record.put_opening.Statement.{statement}
 use Rattle.idrp.proofs.record.put_opening.Tie as tie
-use Rattle.idrp.proofs.record.put_opening.Reads as reads
-use Rattle.idrp.proofs.record.put_opening.Lts as lts
-use Rattle.cells.proofs.emit.close_group.Reads as close-group-reads
-use Rattle.cells.proofs.emit.open_object.Reads as open-object-reads
-use Rattle.idrp.proofs.open.put_open.Reads as put-open-reads
 use mathlib.Core.Bool.{true}
 use Rattle.octets.proofs.Emits.{nothing}
 use Rattle.names.specs.Numbers.{kOpen}
@@ -14,27 +9,21 @@ use Rattle.idrp.specs.Pdu.{openMembers}
 use Rattle.idrp.proofs.Members.{row-as}
 use Rattle.idrp.proofs.Records.{open-cut, open-whole}
 
--- src/record.rt:38:9
 returns : tie.Need-returns
 returns c = row-as 1 (open-cut (c .before .before .before .args .s .now) (c .before .before .before .pre .0) (c .if1 .taken)) (rw flat-none (nothing _ _ (search needs) (search needs)))
 
--- src/record.rt:40:9
 open-object-requires : tie.Need-open-object-requires
 open-object-requires c κs = search needs
 
--- src/record.rt:41:9
 put-open-requires : tie.Need-put-open-requires
 put-open-requires c κs = search needs
 
--- src/record.rt:42:5
 close-group-requires : tie.Need-close-group-requires
 close-group-requires c κs = search needs
 
--- src/record.rt:33:1
 same-length : tie.Need-same-length
 same-length c = search needs
 
--- src/record.rt:33:1
 returns-2 : tie.Need-returns-2
 returns-2 c =
     let s = c .before .before .before .before .before .before .before .before .before .before .before .before .before .before .before .args .s .now in

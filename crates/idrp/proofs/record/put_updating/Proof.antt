@@ -1,12 +1,6 @@
 use borrow.Author.Needs.{needs}
 use Rattle.idrp.proofs.record.put_updating.Statement.{statement}
 use Rattle.idrp.proofs.record.put_updating.Tie as tie
-use Rattle.idrp.proofs.record.put_updating.Reads as reads
-use Rattle.idrp.proofs.record.put_updating.Lts as lts
-use Rattle.cells.proofs.emit.close_group.Reads as close-group-reads
-use Rattle.cells.proofs.emit.open_object.Reads as open-object-reads
-use Rattle.idrp.proofs.update.put_update.Reads as put-update-reads
-use Rattle.idrp.proofs.update.update_readable.Reads as update-readable-reads
 use mathlib.Core.Path.{_∙_, sym}
 use mathlib.Core.Bool.{true}
 use Rattle.octets.proofs.Emits.{nothing}
@@ -16,34 +10,27 @@ use Rattle.idrp.specs.Update.{updateMembers}
 use Rattle.idrp.proofs.Members.{row-as}
 use Rattle.idrp.proofs.Records.{update-whole, update-cut}
 
--- src/record.rt:50:8
 update-readable-requires : tie.Need-update-readable-requires
 update-readable-requires c κs = search needs
 
--- src/record.rt:51:13
 open-object-requires : tie.Need-open-object-requires
 open-object-requires c κs = search needs
 
--- src/record.rt:52:13
 put-update-requires : tie.Need-put-update-requires
 put-update-requires c κs = (sym (c .before .before .before .before .before .before .update-readable .ensures) ∙ c .before .before .before .before .before .if1 .taken, c .before .before .before .before .before .before .before .before .before .pre .1)
 
--- src/record.rt:53:9
 close-group-requires : tie.Need-close-group-requires
 close-group-requires c κs = search needs
 
--- src/record.rt:53:9
 same-length : tie.Need-same-length
 same-length c = search needs
 
--- src/record.rt:53:9
 returns : tie.Need-returns
 returns c =
     let s = c .before .before .before .before .before .before .before .before .before .before .before .before .before .before .before .before .args .s .now in
     row-as 1 (update-whole s (c .before .before .before .before .before .before .before .before .before .before .before .before .before .before .before .before .pre .0) (sym (c .before .before .before .before .before .before .before .before .before .before .before .before .before .update-readable .ensures) ∙ c .before .before .before .before .before .before .before .before .before .before .before .before .if1 .taken))
     (around 1 true kUpdate (updateMembers 30 s) (c .before .before .before .before .before .before .before .before .before .before .open-object .ensures) (c .before .before .before .before .before .before .put-update .ensures) (c .before .before .close-group .ensures))
 
--- src/record.rt:46:1
 returns-2 : tie.Need-returns-2
 returns-2 c = row-as 1 (update-cut (c .before .before .before .before .args .s .now) (c .before .before .before .before .pre .0) (sym (c .before .update-readable .ensures) ∙ c .if1 .left)) (rw flat-none (nothing _ _ (search needs) (search needs)))
 

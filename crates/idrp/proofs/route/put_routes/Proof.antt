@@ -1,12 +1,6 @@
 use borrow.Author.Needs.{needs}
 use Rattle.idrp.proofs.route.put_routes.Statement.{statement}
 use Rattle.idrp.proofs.route.put_routes.Tie as tie
-use Rattle.idrp.proofs.route.put_routes.Reads as reads
-use Rattle.idrp.proofs.route.put_routes.Lts as lts
-use Rattle.cells.proofs.emit.close_group.Reads as close-group-reads
-use Rattle.cells.proofs.emit.open_list.Reads as open-list-reads
-use Rattle.idrp.proofs.octet.two_at.Reads as two-at-reads
-use Rattle.idrp.proofs.route.routes.Reads as routes-reads
 use mathlib.Core.Bool.{false}
 use Rattle.octets.proofs.Emits.{nothing}
 use Rattle.names.specs.Numbers.{kWithdrawnRoutes}
@@ -15,31 +9,24 @@ use Rattle.idrp.specs.Update.{routeItems}
 use Rattle.idrp.proofs.Members.{row-as}
 use Rattle.idrp.proofs.Routes.{no-routes, some-routes}
 
--- src/route.rt:35:9
 two-at-requires : tie.Need-two-at-requires
 two-at-requires c κs = search needs
 
--- src/route.rt:37:9
 returns : tie.Need-returns
 returns c = row-as 2 (no-routes (c .before .before .before .before .args .s .now) (c .before .two-at .result) (c .before .two-at .ensures .0) (c .if1 .taken)) (rw flat-none (nothing _ _ (search needs) (search needs)))
 
--- src/route.rt:39:9
 open-list-requires : tie.Need-open-list-requires
 open-list-requires c κs = search needs
 
--- src/route.rt:40:9
 routes-requires : tie.Need-routes-requires
 routes-requires c κs = search needs
 
--- src/route.rt:41:5
 close-group-requires : tie.Need-close-group-requires
 close-group-requires c κs = search needs
 
--- src/route.rt:31:1
 same-length : tie.Need-same-length
 same-length c = search needs
 
--- src/route.rt:31:1
 returns-2 : tie.Need-returns-2
 returns-2 c =
     let s = c .before .before .before .before .before .before .before .before .before .before .before .before .before .before .before .before .args .s .now in

@@ -1,9 +1,5 @@
 use Rattle.idrp.proofs.route.routes.Statement.{statement}
 use Rattle.idrp.proofs.route.routes.Tie as tie
-use Rattle.idrp.proofs.route.routes.Reads as reads
-use Rattle.idrp.proofs.route.routes.Lts as lts
-use Rattle.cells.proofs.emit.put_word_leaf.Reads as put-word-leaf-reads
-use Rattle.idrp.proofs.octet.four_at.Reads as four-at-reads
 use borrow.Author.Needs.{needs}
 use Prim.Native.Nat.{_+_, _*_, _≤_}
 use mathlib.Core.Path.{_≡_, refl, _∙_}
@@ -21,31 +17,24 @@ Inv-loop out₀ at s n left₀ i₀ next₀ out left i next = (length out ≡ le
 abbrev μ-loop : tie.MeasureT-loop
 μ-loop out₀ at s n left₀ i₀ next₀ out left i next = left
 
--- src/route.rt:22:5
 loop-holds : tie.Need-loop-holds Inv-loop μ-loop
 loop-holds c = (refl, c .before .before .pre, search needs, λ p n e. e)
 
--- src/route.rt:23:47
 four-at-requires : tie.Need-four-at-requires Inv-loop μ-loop
 four-at-requires c κs = omega (arith, c .before .before .loop .inv .1, c .before .loop-test .taken)
 
--- src/route.rt:23:9
 put-word-leaf-requires : tie.Need-put-word-leaf-requires Inv-loop μ-loop
 put-word-leaf-requires c κs = search needs
 
--- src/route.rt:24:13
 add-i : tie.Need-add-i Inv-loop μ-loop
 add-i c = omega (arith, c .before .before .before .before .before .before .loop .inv .1, c .before .before .before .before .before .loop-test .taken)
 
--- src/route.rt:25:16
 sub-left : tie.Need-sub-left Inv-loop μ-loop
 sub-left c = omega (arith, c .before .before .before .before .before .loop-test .taken)
 
--- src/route.rt:22:5
 loop-less : tie.Need-loop-less Inv-loop μ-loop
 loop-less c = omega (arith, c .before .before .before .before .before .loop-test .taken)
 
--- src/route.rt:22:5
 loop-again : tie.Need-loop-again Inv-loop μ-loop
 loop-again c =
     let a = c .before .before .before .before .before .before .before .before .before .args in
@@ -57,11 +46,9 @@ loop-again c =
       onward (l .loop .inv .3) put (routes-turn 3 (a .s .now) (l .loop .left) (l .loop .i) (c .before .before .before .before .before .loop-test .taken)),
     )
 
--- src/route.rt:15:1
 same-length : tie.Need-same-length Inv-loop μ-loop
 same-length c = search needs
 
--- src/route.rt:15:1
 returns : tie.Need-returns Inv-loop μ-loop
 returns c = finish (c .before .loop .inv .3) (routes-over 3 (c .before .before .before .before .args .s .now) (c .before .loop .left) (c .before .loop .i) (c .loop-test .left)) (search needs) (search needs)
 

@@ -1,13 +1,6 @@
 use borrow.Author.Needs.{needs}
 use Rattle.idrp.proofs.update.put_update.Statement.{statement}
 use Rattle.idrp.proofs.update.put_update.Tie as tie
-use Rattle.idrp.proofs.update.put_update.Reads as reads
-use Rattle.idrp.proofs.update.put_update.Lts as lts
-use Rattle.idrp.proofs.attribute.attributes_at.Reads as attributes-at-reads
-use Rattle.idrp.proofs.attribute.attributes_place.Reads as attributes-place-reads
-use Rattle.idrp.proofs.attribute.put_attributes.Reads as put-attributes-reads
-use Rattle.idrp.proofs.nlri.put_nlri.Reads as put-nlri-reads
-use Rattle.idrp.proofs.route.put_routes.Reads as put-routes-reads
 use native.Mathlib.Omega.{arith}
 use Rattle.names.specs.Numbers.{kNlri}
 use Rattle.cells.specs.Items.{Items, inList, _⊕_}
@@ -16,31 +9,24 @@ use Rattle.idrp.specs.Update.{routesMember, attributesMember, nlriItems}
 use Rattle.idrp.proofs.Members.{row-as}
 use Rattle.idrp.proofs.Updates.{there, nlri-at, members-are}
 
--- src/update.rt:37:9
 attributes-at-requires : tie.Need-attributes-at-requires
 attributes-at-requires c κs = there (c .before .before .args .s .now) (c .before .before .pre .0) .0
 
--- src/update.rt:38:9
 attributes-place-requires : tie.Need-attributes-place-requires
 attributes-place-requires c κs = (c .attributes-at .ensures .0, omega (arith, c .attributes-at .ensures .0, there (c .before .before .before .args .s .now) (c .before .before .before .pre .0) .1))
 
--- src/update.rt:39:9
 put-routes-requires : tie.Need-put-routes-requires
 put-routes-requires c κs = let w = there (c .before .before .before .before .before .args .s .now) (c .before .before .before .before .before .pre .0) in (w .0, omega (arith, w .1))
 
--- src/update.rt:40:9
 put-attributes-requires : tie.Need-put-attributes-requires
 put-attributes-requires c κs = (c .before .before .before .before .before .before .attributes-at .ensures .0, omega (arith, c .before .before .before .before .before .before .attributes-at .ensures .0, there (c .before .before .before .before .before .before .before .before .before .args .s .now) (c .before .before .before .before .before .before .before .before .before .pre .0) .1), c .before .before .before .before .before .before .before .before .before .pre .1)
 
--- src/update.rt:41:5
 put-nlri-requires : tie.Need-put-nlri-requires
 put-nlri-requires c κs = search needs
 
--- src/update.rt:33:1
 same-length : tie.Need-same-length
 same-length c = search needs
 
--- src/update.rt:33:1
 returns : tie.Need-returns
 returns c =
     let a = c .before .before .before .before .before .before .before .before .before .before .before .before .before .before .before .before .args in
