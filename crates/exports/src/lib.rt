@@ -11,6 +11,7 @@ ghost use Rattle.x25.specs.Packet.{x25Cells, x25Answer, payloadFor};
 ghost use Rattle.clnp.specs.Pdu.{clnpCells, hasAddresses};
 ghost use Rattle.clnp.specs.Segment.{segmentOf as clnpSegmentOf, addressesOf};
 ghost use Rattle.clnp.specs.Segment.{tpduOf, tpduAnswer, tpduPlace};
+ghost use Rattle.network.specs.Network.{networkCells};
 ghost use Rattle.exports.specs.Told.{Told, isPiece, pieceNumbers, isSegment, segmentNumbers, addressNumbers};
 use cells::answer::Answer;
 use cells::answer::count as count_of;
@@ -102,6 +103,15 @@ pub extern "C" fn atn_parse_clnp(b: &[u8], out: &mut [u64], said: &mut [u64]) ->
     ensures { λ r. ⌜ Told (length (now (b .entry))) (clnpCells (now (b .entry))) (now (out .entry)) (now (out .exit)) r (now (said .entry)) (now (said .exit)) ⌝ }
 {
     let a = clnp::parse_clnp(b, out);
+    tell(a, said)
+}
+
+// The answer; the count of cells is said.
+#[no_mangle]
+pub extern "C" fn atn_parse_network(b: &[u8], out: &mut [u64], said: &mut [u64]) -> u64
+    ensures { λ r. ⌜ Told (length (now (b .entry))) (networkCells (now (b .entry))) (now (out .entry)) (now (out .exit)) r (now (said .entry)) (now (said .exit)) ⌝ }
+{
+    let a = network::parse_network(b, out);
     tell(a, said)
 }
 

@@ -2,6 +2,7 @@
 mod check;
 mod clnp;
 mod cotp;
+mod network;
 mod ours;
 mod x25;
 
@@ -16,4 +17,5 @@ fn main() {
     x25::run(seed, count as usize);
     cotp::run(seed, count as usize);
     clnp::run(seed, count as usize);
+    network::run(seed, count as usize);
 }

@@ -26,6 +26,14 @@ extern "C" {
         said: *mut u64,
         ns: usize,
     ) -> u64;
+    fn atn_parse_network(
+        b: *const u8,
+        nb: usize,
+        out: *mut u64,
+        no: usize,
+        said: *mut u64,
+        ns: usize,
+    ) -> u64;
     fn atn_clnp_cotp_tpdu(b: *const u8, nb: usize, said: *mut u64, ns: usize) -> u64;
     fn atn_clnp_segment(b: *const u8, nb: usize, said: *mut u64, ns: usize) -> bool;
     fn atn_clnp_addresses(b: *const u8, nb: usize, said: *mut u64, ns: usize) -> bool;
@@ -95,6 +103,25 @@ pub fn parse_clnp(b: &[u8], out: &mut [u64]) -> Said {
     let mut said = [u64::MAX; 1];
     let answer = unsafe {
         atn_parse_clnp(
+            b.as_ptr(),
+            b.len(),
+            out.as_mut_ptr(),
+            out.len(),
+            said.as_mut_ptr(),
+            1,
+        )
+    };
+    Said {
+        answer,
+        count: said[0] as usize,
+        place: b.len(),
+    }
+}
+
+pub fn parse_network(b: &[u8], out: &mut [u64]) -> Said {
+    let mut said = [u64::MAX; 1];
+    let answer = unsafe {
+        atn_parse_network(
             b.as_ptr(),
             b.len(),
             out.as_mut_ptr(),

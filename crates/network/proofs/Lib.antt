@@ -1,0 +1,4 @@
+pub mod Firsts
+pub mod Thin
+pub mod WellFormed
+pub mod Determined
