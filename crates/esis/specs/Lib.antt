@@ -1,1 +1,2 @@
 pub mod Pdu
+pub mod Layout
