@@ -5,3 +5,6 @@ pub mod Thin
 pub mod Says
 pub mod Determined
 pub mod WellFormed
+pub mod AddressesLaid
+pub mod OptionsLaid
+pub mod Laid

@@ -69,11 +69,17 @@ module _ (s : List ℕ) where
   part-is : (p : ℕ) → p ≡ optionsAt s → inList kOptions (optionItems p (take (length s - p) (drop p s))) ≡ optionsFrom (optionsAt s)
   part-is p e = ap (λ (l : List ℕ). inList kOptions (optionItems p l)) (rest p s) ∙ ap optionsFrom e
 
+  pub member-read-esh : typeCode s ≡ 2 → optionMember s ≡ optionsFrom (optionsAt s)
+  member-read-esh h = sym (member-is (eq-eqb (typeCode s) 2 h) refl)
+
+  pub member-read-ish : (typeCode s ≡ 2 → ⊥) → typeCode s ≡ 4 → optionMember s ≡ optionsFrom (optionsAt s)
+  member-read-ish h k = sym (member-is (ne-eqb (typeCode s) 2 h) (eq-eqb (typeCode s) 4 k))
+
   pub member-esh : (p : ℕ) → p ≡ optionsAt s → typeCode s ≡ 2 → inList kOptions (optionItems p (take (length s - p) (drop p s))) ≡ optionMember s
-  member-esh p e h = part-is p e ∙ member-is (eq-eqb (typeCode s) 2 h) refl
+  member-esh p e h = part-is p e ∙ sym (member-read-esh h)
 
   pub member-ish : (p : ℕ) → p ≡ optionsAt s → (typeCode s ≡ 2 → ⊥) → typeCode s ≡ 4 → inList kOptions (optionItems p (take (length s - p) (drop p s))) ≡ optionMember s
-  member-ish p e h k = part-is p e ∙ member-is (ne-eqb (typeCode s) 2 h) (eq-eqb (typeCode s) 4 k)
+  member-ish p e h k = part-is p e ∙ sym (member-read-ish h k)
 
   pub member-none : (typeCode s ≡ 2 → ⊥) → (typeCode s ≡ 4 → ⊥) → none ≡ optionMember s
   member-none h k = member-is (ne-eqb (typeCode s) 2 h) (ne-eqb (typeCode s) 4 k)
