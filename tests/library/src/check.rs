@@ -25,7 +25,7 @@ impl Check {
             name,
             parse,
             cells: vec![MARK; 4 * 65_536 + 100],
-            text: vec![0; 1 << 20],
+            text: vec![0; 1 << 23],
             inputs: 0,
             records: 0,
         }
@@ -104,6 +104,7 @@ impl Check {
             }
         };
         if let Err(why) = found {
+            let why: String = why.chars().take(1000).collect();
             let hex: String = b.iter().take(64).map(|x| format!("{x:02x}")).collect();
             eprintln!("{} {hex} ({} octets): {why}", self.name, b.len());
             std::process::exit(1);
