@@ -116,7 +116,7 @@ word-shown : (n : ℕ) (r : List ℕ) → (n ≡ 80) ⊎ (n ≡ 78) → wordAt n
 word-shown n r (inl e) = rw e
 word-shown n r (inr e) = rw e
 
-word-pushed : (n : ℕ) (r : List ℕ) → (n ≡ 80 → ⊥) → (n ≡ 78 → ⊥) → wordAt n r ≡ packetWord r
+pub word-pushed : (n : ℕ) (r : List ℕ) → (n ≡ 80 → ⊥) → (n ≡ 78 → ⊥) → wordAt n r ≡ packetWord r
 word-pushed n r e f = rw (ne-eqb n 80 e, ne-eqb n 78 f)
 
 -- its word is a packet's
