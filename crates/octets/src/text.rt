@@ -7,7 +7,7 @@ ghost use Rattle.octets.specs.Text.{digits, decimal, hexDigit, hexOctet,
 use crate::emit::put_octet;
 
 // At most the last k decimal digits of n, with no zero in front.
-fn put_digits(out: &mut [u8], at: usize, k: usize, n: u32) -> usize
+pub fn put_digits(out: &mut [u8], at: usize, k: usize, n: u64) -> usize
     ensures { λ r. ⌜ Emits (now (out .entry)) at (digits k n) (now (out .exit)) r ⌝ }
 {
     if k == 0 {
@@ -24,7 +24,7 @@ fn put_digits(out: &mut [u8], at: usize, k: usize, n: u32) -> usize
 pub fn put_decimal(out: &mut [u8], at: usize, n: u32) -> usize
     ensures { λ r. ⌜ Emits (now (out .entry)) at (decimal n) (now (out .exit)) r ⌝ }
 {
-    put_digits(out, at, 10, n)
+    put_digits(out, at, 10, n as u64)
 }
 
 const HEX: [u8; 16] = [
