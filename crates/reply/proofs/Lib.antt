@@ -1,0 +1,4 @@
+pub mod Shows
+pub mod Lines
+pub mod Replies
+pub mod Determined
