@@ -2,3 +2,4 @@ pub mod Shows
 pub mod Lines
 pub mod Replies
 pub mod Determined
+pub mod Sizes
