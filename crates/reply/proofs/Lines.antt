@@ -1,8 +1,8 @@
 -- A line's packet, where it was read to, and what is said of the line.
 use Prim.Native.Nat.{ℕ, _+_, _≤_}
-use mathlib.Core.Path.{_≡_, refl, sym, ap, subst, _∙_}
+use mathlib.Core.Path.{_≡_, refl, sym, ap, _∙_}
 use mathlib.Core.Bool.{true}
-use mathlib.Core.List.{List, [], _++_}
+use mathlib.Core.List.{List}
 use native.Mathlib.Omega.{arith}
 use lib.ListN.{length, take, drop}
 use lib.Seq.{take-at}
@@ -11,7 +11,6 @@ use Rattle.octets.proofs.Put.{put-is, length-put}
 use Rattle.x25.specs.Packet.{x25Cells}
 use Rattle.network.specs.Network.{networkCells}
 use Rattle.replay_line.specs.Line.{lineOf, packetOf, hasPacket}
-use Rattle.replay_line.specs.Said.{textSaid}
 use Rattle.replay_line.specs.declared.line.Line.{Line}
 use Rattle.replay_line.specs.declared.line.Line.the-variants.{Bad, X25, Network, Ordered}
 use Rattle.replay_line.specs.declared.line.Order.{Order}

@@ -1,33 +1,33 @@
 -- What is said of a line whose packet has a record, and of one that is bad.
 use Prim.Native.Nat.{ℕ, zero, suc, _≤_, _<_}
-use mathlib.Core.Path.{_≡_, refl, sym, ap, subst, _∙_}
-use mathlib.Core.Bool.{false, true}
+use mathlib.Core.Path.{_≡_, refl, sym, ap, _∙_}
 use mathlib.Core.List.{List, [], _∷_}
 use native.Mathlib.Omega.{arith}
 use borrow.Author.Tests.{le-leb, le-ltb, ne-eqb}
-use lib.Dec.{ltb, leb, eqb}
-use lib.ListN.{length, getD}
-use Rattle.octets.specs.Text.{pick}
+use lib.ListN.{length}
+use Rattle.octets.specs.Text.{digits}
+use Rattle.octets.specs.Tests.{all}
 use Rattle.octets.proofs.Numbers.{Octets}
 use Rattle.names.specs.Ascii.{octets}
 use Rattle.cells.specs.Items.{Items, recordOf, flat}
 use Rattle.cells.specs.Good.{Good}
+use Rattle.cells.specs.Walk.{walkFrom, walkBy}
 use Rattle.cells.specs.Answer.{answerTo, numberOf}
 use Rattle.cells.specs.declared.answer.Answer.{Answer}
 use Rattle.cells.specs.declared.answer.Answer.the-variants.{Whole}
 use Rattle.print.specs.Json.{jsonOf}
 use Rattle.print.specs.Print.{printed}
-use Rattle.print.proofs.Records.{printed-record}
+use Rattle.print.proofs.Records.{printed-record, packet, packet-text}
 use Rattle.fields.proofs.Goods as fields
-use Rattle.x25.specs.Packet.{x25Cells, membersOf}
+use Rattle.x25.specs.Packet.{byType, x25Cells, membersOf}
 use Rattle.x25.specs.Packet as x25
 use Rattle.x25.proofs.Cells.{no-cells, cells-are}
 use Rattle.x25.proofs.WellFormed.{good-members}
 use Rattle.network.specs.Network.{networkCells, networkMembers}
 use Rattle.network.proofs.WellFormed.{network-record}
-use Rattle.replay_line.specs.Line.{lineOf, packetOf}
-use Rattle.replay_line.specs.Said.{textSaid}
-use Rattle.replay_line.specs.declared.line.Line.{Line}
+use Rattle.replay_line.specs.Line.{lineBy, lineOf, packetOf}
+use Rattle.replay_line.specs.Word.{digitOf, pairsOf, isPacket, packetIn}
+use Rattle.replay_line.specs.Said.{saidWith, textSaid}
 use Rattle.replay_line.specs.declared.line.Line.the-variants.{Bad, X25, Network}
 use Rattle.replay_line.proofs.Grammar.{packet-short, packet-octets, long-bad}
 use Rattle.reply.specs.Shown.{shown, shownBy, textWith}
@@ -97,3 +97,46 @@ module _ (cells room n : ℕ) (l : List ℕ) where
 
   pub long-said : 4120 < length l → replyOf cells room n l ≡ textSaid n 17 []
   long-said h = bad-said (long-bad l h)
+
+-- ---- document 01's own line: P 10020043
+abbrev line : List ℕ
+line = octets "P 10020043"
+
+abbrev said : List ℕ
+said = 16 ∷ 2 ∷ 0 ∷ 67 ∷ []
+
+line-kind : lineOf line ≡ X25 4
+unfolding lineOf lineBy isPacket packetIn pairsOf digitOf all
+line-kind = refl
+
+line-packet : packetOf line ≡ said
+unfolding lineOf lineBy isPacket packetOf packetIn pairsOf digitOf all
+line-packet = refl
+
+said-cells : x25Cells said ≡ flat 0 (recordOf packet)
+unfolding x25Cells x25.packetOf byType membersOf walkFrom walkBy
+said-cells = refl
+
+packet-fits : length (flat 0 (recordOf packet)) ≤ 8192
+unfolding flat
+packet-fits = omega arith
+
+text-fits : length (jsonOf said packet) ≤ 8192
+text-fits = rw packet-text (omega arith)
+
+good-packet : Good 4 packet
+good-packet = (omega arith, (omega arith, omega arith), omega arith, (omega arith, (omega arith, omega arith), (omega arith, omega arith), (omega arith, (omega arith, omega arith), omega arith, (omega arith, (omega arith, omega arith), omega arith, (omega arith, (omega arith, omega arith), omega arith, tt)))))
+
+text-said : textSaid 4 0 (octets "{\"lcn\":2,\"kind\":\"data\",\"ps\":0,\"pr\":0,\"more\":false}") ≡ octets "4 0 50 {\"lcn\":2,\"kind\":\"data\",\"ps\":0,\"pr\":0,\"more\":false}\n"
+unfolding saidWith digits
+text-said = refl
+
+pub example : replyOf 8192 8192 4 (octets "P 10020043") ≡ octets "4 0 50 {\"lcn\":2,\"kind\":\"data\",\"ps\":0,\"pr\":0,\"more\":false}\n"
+unfolding replyOf
+example =
+    ap (replyTo 8192 8192 4 (packetOf line)) line-kind
+    ∙ ap (λ (s : List ℕ). saidOf 8192 8192 4 (x25Cells s) s) line-packet
+    ∙ ap (λ (xs : List ℕ). saidOf 8192 8192 4 xs said) said-cells
+    ∙ says-json 8192 8192 4 said packet (omega arith) good-packet packet-fits text-fits
+    ∙ ap (textSaid 4 0) packet-text
+    ∙ text-said
