@@ -269,12 +269,12 @@ KINDS = {
     "IDRP CEASE": idrp(5, lay.nothing),
     "IDRP RIB-REFRESH": idrp(6, lay.idrp_refresh),
 }
-ADDRESS_FORM = "none (the A bit's address form is not read)"
-MODULO = "none (modulo 128 is not read)"
-FLAGS = "none (E/R and MS are shown only with SP)"
-REASON = "none (a reason for discard of two octets has no member)"
-PRIORITY = "none (priority is 0xCF, not 0xCD)"
-REDIRECT = "none (the addresses and options of an RD are not read)"
+ADDRESS_FORM = "31"
+MODULO = "5"
+FLAGS = "28"
+REASON = "29"
+PRIORITY = "30"
+REDIRECT = "24"
 KNOWN = [
     ("X.25", "cause", lambda p, o, t: p[3] >= 0x80 and o == [0], "7"),
     ("X.25 call", "facilities*", lambda p, o, t: p[0] >= 0x80, ADDRESS_FORM),
