@@ -7,6 +7,7 @@ use native.Mathlib.Nat.{min-le-right}
 use native.Mathlib.Omega.{arith}
 use lib.Dec.{eqb}
 use lib.ListN.{length, take, drop, length-append, length-take, length-drop}
+use Rattle.octets.proofs.Picks.{pick-elim}
 use Rattle.names.specs.Numbers.{kSndcf, kCompressionOptions, kCompressionAlgos, kMaintenance, kVersion, kFacilities, kLcn, kKind, kPs, kPr, kMore, kCause, kCauseText, kDiagnostic, kDiagnosticText, tAca, tDeflate, tLref, tLrefCan}
 use Rattle.cells.specs.Items.{Leaf, Items, none, leaf, group, number, flag, text, recordOf, _⊕_, flat}
 use Rattle.cells.specs.Answer.{numberOf}
@@ -18,7 +19,6 @@ use Rattle.x25.specs.Packet.{optNumber, optText, optSndcf, facMember, me
 use Rattle.x25.specs.declared.packet.Octet.{Octet}
 use Rattle.x25.specs.declared.packet.Octet.the-variants.{Nothing, Is}
 use Rattle.x25.specs.declared.packet.Packet.{Packet}
-use Rattle.x25.proofs.Picks.{pick-elim}
 use Rattle.x25.proofs.Facilities.{fac-thin}
 use Rattle.x25.proofs.Members.{headOf, causesOf, callsOf, members-are}
 

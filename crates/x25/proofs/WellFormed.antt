@@ -8,6 +8,7 @@ use native.Mathlib.Omega.{arith}
 use borrow.Author.Tests.{eqb-false}
 use lib.Dec.{eqb}
 use lib.ListN.{length, getD, take, drop, length-take, length-drop}
+use Rattle.octets.proofs.Picks.{pick-elim}
 use Rattle.names.specs.Numbers.{lastText, kPs, kPr, kMore, kCause, kCauseText, kDiagnostic, kDiagnosticText, kFacilities, tAca, tDeflate, tLref, tLrefCan}
 use Rattle.cells.specs.Items.{Items, none, leaf, flag, _⊕_}
 use Rattle.cells.specs.Read.{itemsOf}
@@ -24,7 +25,6 @@ use Rattle.x25.specs.Packet.{optNumber, optText, optSndcf, facMember, me
 use Rattle.x25.specs.declared.packet.Octet.{Octet}
 use Rattle.x25.specs.declared.packet.Octet.the-variants.{Nothing, Is}
 use Rattle.x25.specs.declared.packet.Packet.{Packet}
-use Rattle.x25.proofs.Picks.{pick-elim}
 use Rattle.x25.proofs.Facilities.{Within, fac-within}
 use Rattle.x25.proofs.Members.{headOf, causesOf, callsOf, members-are}
 use Rattle.x25.proofs.Cells.{cells-are}
