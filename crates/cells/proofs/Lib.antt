@@ -7,3 +7,4 @@ pub mod Sound
 pub mod WellFormed
 pub mod Walks
 pub mod Answers
+pub mod Once

@@ -43,6 +43,10 @@ pub around : {o p q s : List ℕ} {at b c e : ℕ} (d : ℕ) (g : Bool) (f : ℕ
     → Emits o at (openCell d g f ∷ []) p b → Emits p b (flat (d + 1) is) q c → Emits q c (closeCell d ∷ []) s e → Emits o at (flat d (group g f is none)) s e
 around d g f is x y z = emits-as (sym (flat-group d g f is)) (then x (then y z))
 
+-- what is put, as a row that is equal
+pub row-as : {o p : List ℕ} {at n : ℕ} (d : ℕ) {xs ys : Items} → xs ≡ ys → Emits o at (flat d xs) p n → Emits o at (flat d ys) p n
+row-as d e f = emits-as (ap (flat d) e) f
+
 -- two good rows are a good row
 pub good-⊕ : (n : ℕ) (k : Bool) (d : ℕ) (xs ys : Items) → GoodRow n k d xs → GoodRow n k d ys → GoodRow n k d (xs ⊕ ys)
 good-⊕ n k d none ys g h = h

@@ -9,6 +9,7 @@ use lib.Dec.{ltb, leb, eqb}
 use lib.ListN.{length, getD}
 use Rattle.octets.specs.Text.{pick}
 use Rattle.octets.specs.Read.{be16}
+use Rattle.octets.proofs.Picks.{pick-elim}
 use Rattle.clnp.specs.Segment.{headed, sp, more, behind, segAt, segmentOf, addressOk, addressesOf, isPiece, tpduOf, tpduPlace}
 use Rattle.clnp.specs.declared.segment.Segment.{Segment}
 use Rattle.clnp.specs.declared.segment.Segment.the-variants as segment
@@ -175,10 +176,6 @@ module _ (s : List ℕ) (is-full : headed s ≡ true) where
     whole n e h = ap tpdu.From e ∙ tpdu-is s (ap not is-full) is-dt h
 
 -- it begins within the octets
-pick-elim : {A : Type 0} (P : A → Type 0) (b : Bool) {x y : A} → (b ≡ true → P x) → (b ≡ false → P y) → P (pick b x y)
-pick-elim P true f g = f refl
-pick-elim P false f g = g refl
-
 abbrev Within : List ℕ → Tpdu → Type 0
 Within s t = tpduPlace s t ≤ length s
 

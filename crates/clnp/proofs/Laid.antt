@@ -3,17 +3,16 @@ use Prim.Native.Nat.{ℕ, _+_, _*_, _-_, _%_, _≤_, _<_}
 use mathlib.Core.Bool.{Bool, true, false, not, _&&_, _||_}
 use mathlib.Core.List.{List, [], _∷_, _++_, append-assoc}
 use mathlib.Core.Path.{_≡_, refl, sym, ap, ap₂, _∙_}
-use native.Mathlib.Nat.{add-zero}
 use native.Mathlib.Omega.{arith}
 use borrow.Author.Tests.{lt-ltb, le-leb, lt-leb, eq-eqb, ne-eqb, eqb-true, eqb-false}
 use lib.Dec.{leb, eqb}
 use lib.ListN.{length, getD, take, drop, length-append}
-use lib.Seq.{take-at, drop-at, drop-drop, getD-drop}
+use lib.Seq.{take-at, drop-at}
 use Rattle.octets.specs.Text.{pick}
 use Rattle.octets.specs.Read.{be16, octetsOf}
+use Rattle.octets.proofs.Stands.{two-back, next, octet-of, first-of}
 use Rattle.cells.specs.Items.{none}
 use Rattle.cotp.specs.Tpdu.{headOf}
-use Rattle.cotp.proofs.Laid.{two-back}
 use Rattle.clnp.specs.Segment.{headed, sp, more, report, behind, segAt, segmentOf, addressOk, addressesOf, isPiece, tpduOf}
 use Rattle.clnp.specs.Pdu.{offsetOf, segmented, optionsAt, optionPart, cotpMember, dataMember}
 use Rattle.clnp.specs.Layout.{Fields, Right, addressLaid, segmentLaid, behindFixed, headerLen, fixedLaid, laid}
@@ -75,17 +74,6 @@ module _ (f : Fields) (r : Right f) where
 behind-all : (a b c d e : List ℕ) → (a ++ (b ++ (c ++ d))) ++ e ≡ a ++ (b ++ (c ++ (d ++ e)))
 behind-all a b c d e =
     append-assoc a (b ++ (c ++ d)) e ∙ ap (λ (z : List ℕ). a ++ z) (append-assoc b (c ++ d) e ∙ ap (λ (z : List ℕ). b ++ z) (append-assoc c d e))
-
--- what follows a part
-next : (s a rest : List ℕ) (p : ℕ) → drop p s ≡ a ++ rest → drop (p + length a) s ≡ rest
-next s a rest p e = sym (drop-drop (length a) p s) ∙ ap (drop (length a)) e ∙ drop-at a rest (length a) refl
-
--- an octet of it
-octet-of : (s rest : List ℕ) (p k : ℕ) → drop p s ≡ rest → getD s (p + k) 0 ≡ getD rest k 0
-octet-of s rest p k e = sym (getD-drop p s k 0) ∙ ap (λ (z : List ℕ). getD z k 0) e
-
-first-of : (s rest : List ℕ) (p : ℕ) → drop p s ≡ rest → getD s p 0 ≡ getD rest 0 0
-first-of s rest p e = rw add-zero at (octet-of s rest p 0 e)
 
 abbrev pub srcAt : Fields → ℕ
 srcAt f = 10 + length (f .dst)

@@ -4,7 +4,7 @@ pub mod Labels
 pub mod Options
 pub mod Records
 pub mod Thin
-pub mod Says
+pub mod Cells
 pub mod Determined
 pub mod WellFormed
 pub mod OptionsLaid

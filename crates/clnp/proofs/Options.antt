@@ -8,13 +8,13 @@ use borrow.Author.Tests.{eq-eqb, ne-eqb, lt-ltb, le-ltb}
 use lib.Dec.{ltb, eqb}
 use lib.ListN.{length, getD, take, drop}
 use Rattle.octets.specs.Text.{pick}
+use Rattle.octets.proofs.Picks.{pick-yes, pick-no}
 use Rattle.names.specs.Numbers.{kOptions, kPriority, kReason, kSecurityFormat, kSecurityLabel, kValueHex, tGloballyUnique}
 use Rattle.cells.specs.Items.{Items, none, leaf, group, number, text, part, inList, _⊕_}
 use Rattle.cells.specs.Walk.{stepOf, itemsFrom, leftFrom}
 use Rattle.cells.specs.declared.entry.Entry.the-variants.{Stop, Body}
 use Rattle.cells.proofs.Walks.{turn, done, over}
 use Rattle.fields.specs.Tlv.{tlvAt}
-use Rattle.fields.proofs.Picks.{pick-yes, pick-no}
 use Rattle.fields.proofs.Tlvs.{whole-at}
 use Rattle.clnp.specs.Label.{labelMembers}
 use Rattle.clnp.specs.Options.{optionValue, option, optionStep, optionItems, optionLeft}

@@ -10,12 +10,12 @@ use lib.ListN.{length, getD, take, drop}
 use Rattle.octets.specs.Text.{pick}
 use Rattle.octets.specs.Read.{be16}
 use Rattle.octets.proofs.Tests.{no-true, and-left, and-right}
+use Rattle.octets.proofs.Picks.{pick-elim, pick-yes, pick-no}
 use Rattle.names.specs.Numbers.{kProtocol, kType, kVersion, kLifetime500ms, kSegLen, kPduId, kSegmentOffset, kTotalLen, kSegmented, kErrorReport, kMoreSegments, kOptions, kCotp, tClnp}
 use Rattle.cells.specs.Items.{Items, none, leaf, group, number, flag, text, inList, _⊕_}
 use Rattle.cells.proofs.Walks.{over}
 use Rattle.cells.proofs.Answers.{rest}
 use Rattle.fields.specs.Member.{optYes}
-use Rattle.fields.proofs.Picks.{pick-elim, pick-yes, pick-no}
 use Rattle.cotp.specs.Tpdu as cotp
 use Rattle.cotp.specs.declared.tpdu.Head.{Head}
 use Rattle.clnp.specs.Segment.{headed, sp, more, report, behind, segAt, addressOk, addressesOf}

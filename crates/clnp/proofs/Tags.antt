@@ -7,6 +7,7 @@ use native.Mathlib.Omega.{arith}
 use borrow.Author.Tests.{leb-true, eq-eqb, ne-eqb, lt-ltb, le-ltb}
 use lib.Dec.{ltb, leb, eqb}
 use lib.ListN.{length, getD}
+use Rattle.octets.proofs.Picks.{pick-elim, pick-yes, pick-no}
 use Rattle.names.specs.Numbers.{kKind, kClassId, kClassName, kSubnetId, kSubnetName, kPermittedTrafficTypes, kClasses, kTrafficType, kCategory, kRoutePolicy, kValueHex, kSecInfo, tSecurityClassification, tSubnetType, tSupportedAtscClasses, tTrafficType}
 use Rattle.octets.specs.Text.{pick}
 use Rattle.codes.specs.Codes.{Row, textIn, trafficTypes, atscClasses, subnets, securityClasses}
@@ -17,7 +18,6 @@ use Rattle.cells.specs.declared.entry.Entry.the-variants.{Stop, Body}
 use Rattle.cells.proofs.Rows.{⊕-assoc}
 use Rattle.cells.proofs.Walks.{turn, done, over}
 use Rattle.fields.specs.Member.{optText}
-use Rattle.fields.proofs.Picks.{pick-elim, pick-yes, pick-no}
 use Rattle.clnp.specs.Label.{bitName, bitNames, trafficName, categoryName, tagMembers, tag, tagAt, tagStep, tagItems}
 
 -- ---- the texts of the bits, in two parts

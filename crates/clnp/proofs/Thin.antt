@@ -10,6 +10,7 @@ use lib.Dec.{eqb, leb, ltb}
 use lib.ListN.{length, getD, take, drop, length-append, length-take, length-drop}
 use Rattle.octets.specs.Read.{be16}
 use Rattle.octets.proofs.Tests.{and-left, and-right}
+use Rattle.octets.proofs.Picks.{pick-elim}
 use Rattle.names.specs.Numbers.{kCode, kName, kPriority, kReason, kSecurityFormat, kSecurityLabel, kValueHex, kRegId, kSecInfo, kTagSet, kKind, kClassId, kClassName, kSubnetId, kSubnetName, kPermittedTrafficTypes, kClasses, kTrafficType, kCategory, kRoutePolicy, kProtocol, kType, kVersion, kLifetime500ms, kSegLen, kDstNsap, kSrcNsap, kErrorReport, kMoreSegments, kPduId, kSegmentOffset, kTotalLen, kSegmented, kOptions, kCotp, tSecurityClassification, tSubnetType, tSupportedAtscClasses, tTrafficType, tGloballyUnique, tClnp}
 use Rattle.codes.specs.Codes.{Row, textIn, trafficTypes, atscClasses, subnets, securityClasses, clnpOptions}
 use Rattle.cells.specs.Items.{Items, none, leaf, group, number, flag, octet, part, text, recordOf, inList, _⊕_, flat}
@@ -22,7 +23,6 @@ use Rattle.cells.proofs.Walks.{Thin, thin, fuse, flat-walk}
 use Rattle.cells.proofs.Answers.{enough}
 use Rattle.fields.specs.Tlv.{tlvAt}
 use Rattle.fields.specs.Member.{optText, optYes}
-use Rattle.fields.proofs.Picks.{pick-elim}
 use Rattle.fields.proofs.Tlvs as tlvs
 use Rattle.fields.proofs.Sizes.{size, rows, empty, one, text-thin, yes-thin}
 use Rattle.cotp.specs.Tpdu as cotp

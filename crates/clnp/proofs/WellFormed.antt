@@ -1,7 +1,7 @@
 -- The cells of a readable PDU read back as its record.
-use Prim.Native.Nat.{ℕ, suc, _+_, _*_, _-_, _/_, _%_, _≤_, _<_}
+use Prim.Native.Nat.{ℕ, _+_, _*_, _-_, _/_, _%_, _≤_, _<_}
 use mathlib.Core.Path.{_≡_, refl, sym, ap, subst, _∙_}
-use mathlib.Core.List.{List, [], _∷_}
+use mathlib.Core.List.{List, []}
 use mathlib.Core.Bool.{Bool, true, false, not, _&&_, _||_}
 use mathlib.Core.Option.{some}
 use native.Mathlib.Nat.{min-le-left, min-le-right, lt-of-not-le}
@@ -11,10 +11,10 @@ use borrow.Author.Tests.{eqb-false, eqb-true, ltb-true, ltb-false}
 use lib.Dec.{eqb, leb, ltb}
 use lib.ListN.{length, getD, take, drop, length-take, length-drop}
 use Rattle.octets.proofs.Tests.{and-left, and-right}
-use Rattle.names.specs.Place.{same, placeFrom}
-use Rattle.names.specs.Texts.{allTexts, numberOf}
-use Rattle.names.specs.Numbers.{lastText, texts-counted, kClassName, kSubnetName, kSecInfo, kName, kOptions, kSegmented}
-use Rattle.codes.specs.Codes.{Row, nameIn, textIn, trafficTypes, atscClasses, subnets, securityClasses, clnpOptions}
+use Rattle.octets.proofs.Picks.{pick-elim}
+use Rattle.names.specs.Numbers.{lastText, kClassName, kSubnetName, kSecInfo, kName, kOptions, kSegmented}
+use Rattle.codes.specs.Codes.{Row, textIn, trafficTypes, atscClasses, subnets, securityClasses, clnpOptions}
+use Rattle.codes.proofs.Lows.{text-low}
 use Rattle.cells.specs.Items.{Items, none, leaf, group, inList, _⊕_}
 use Rattle.cells.specs.Read.{itemsOf}
 use Rattle.cells.specs.Good.{Key, GoodRow, Good}
@@ -26,7 +26,6 @@ use Rattle.cells.proofs.Walks.{Each, all}
 use Rattle.cells.proofs.WellFormed.{reads-back}
 use Rattle.fields.specs.Tlv.{tlvAt}
 use Rattle.fields.specs.Member.{optText, optYes}
-use Rattle.fields.proofs.Picks.{pick-elim}
 use Rattle.fields.proofs.Tlvs as tlvs
 use Rattle.fields.proofs.Goods.{Octets, text-good, yes-good, take-small, drop-small}
 use Rattle.cotp.specs.Tpdu as cotp
@@ -40,18 +39,9 @@ use Rattle.clnp.specs.declared.segment.Addresses.the-variants as address
 use Rattle.clnp.proofs.Headers.{full}
 use Rattle.clnp.proofs.Tags.{Whole, tag-whole, lowOf, highOf, bits-are}
 use Rattle.clnp.proofs.Records.{Inside, inside, no-options, headOf, optionsOf, restOf, members-are}
-use Rattle.clnp.proofs.Says.{cells-are}
+use Rattle.clnp.proofs.Cells.{cells-are}
 
 -- ---- text numbers are listed
-place-low : (n k : ℕ) (xs : List (List ℕ)) (t : List ℕ) → k + length xs ≤ n + 1 → placeFrom k xs t ≤ n
-unfolding placeFrom
-place-low n k [] t h = omega arith
-place-low n k (x ∷ xs) t h = pick-elim (λ (p : ℕ). p ≤ n) (same x t) (λ e. omega arith) (λ e. place-low n (suc k) xs t (omega arith))
-
-text-low : (rows : List Row) (c : ℕ) → textIn rows [] c ≤ lastText
-unfolding textIn numberOf
-text-low rows c = place-low lastText 0 allTexts (nameIn rows [] c) (omega (arith, texts-counted))
-
 abbrev Listed : ℕ → Type 0
 Listed t = (0 < t) × (t ≤ lastText)
 
@@ -79,7 +69,7 @@ module _ (n : ℕ) where
   bit-good r o bit =
       pick-elim (GoodRow n false 7) (eqb (o / bit % 2) 1)
       (λ h. pick-elim (GoodRow n false 7) (eqb (textIn r [] bit) 0) (λ e. tt)
-      (λ e. let z : textIn r [] bit ≡ 0 → ⊥ = eqb-false (textIn r [] bit) 0 e in let p : 0 < textIn r [] bit = omega (arith, z) in (omega arith, refl, (p, text-low r bit), tt))) (λ h. tt)
+      (λ e. let z : textIn r [] bit ≡ 0 → ⊥ = eqb-false (textIn r [] bit) 0 e in let p : 0 < textIn r [] bit = omega (arith, z) in (omega arith, refl, (p, text-low r [] bit), tt))) (λ h. tt)
 
   half-good : (a b c e : Items) → GoodRow n false 7 a → GoodRow n false 7 b → GoodRow n false 7 c → GoodRow n false 7 e → GoodRow n false 7 (a ⊕ (b ⊕ (c ⊕ e)))
   half-good a b c e p q r o = good-⊕ n false 7 a (b ⊕ (c ⊕ e)) p (good-⊕ n false 7 b (c ⊕ e) q (good-⊕ n false 7 c e r o))
@@ -102,7 +92,7 @@ module _ (n : ℕ) where
         let low : v < 4294967296 = omega (arith, small i) in
         let named : Items = optText kSubnetName (textIn subnets [] v) in
         pick-elim (GoodRow n true 6) (eqb name 0x03 && eqb len 1)
-        (λ e. (omega arith, (omega arith, omega arith), (omega arith, omega arith), (omega arith, (omega arith, omega arith), low, text-good n 6 kClassName (textIn securityClasses [] v) (omega arith) (omega arith, omega arith) (text-low securityClasses v))))
+        (λ e. (omega arith, (omega arith, omega arith), (omega arith, omega arith), (omega arith, (omega arith, omega arith), low, text-good n 6 kClassName (textIn securityClasses [] v) (omega arith) (omega arith, omega arith) (text-low securityClasses [] v))))
         (λ e. pick-elim (GoodRow n true 6) (eqb name 0x05 && eqb len 2)
         (λ e. (
           omega arith,
@@ -112,7 +102,7 @@ module _ (n : ℕ) where
             omega arith,
             (omega arith, omega arith),
             low,
-            good-⊕ n true 6 named (group false 53 (bitNames trafficTypes (getD s (i + 1) 0)) none) (text-good n 6 kSubnetName (textIn subnets [] v) (omega arith) (omega arith, omega arith) (text-low subnets v)) (list-good 53 trafficTypes (getD s (i + 1) 0) (omega arith, omega arith)),
+            good-⊕ n true 6 named (group false 53 (bitNames trafficTypes (getD s (i + 1) 0)) none) (text-good n 6 kSubnetName (textIn subnets [] v) (omega arith) (omega arith, omega arith) (text-low subnets [] v)) (list-good 53 trafficTypes (getD s (i + 1) 0) (omega arith, omega arith)),
           ),
         ))
         (λ e. pick-elim (GoodRow n true 6) ((eqb name 0x06 || eqb name 0x07) && eqb len 1)
@@ -182,7 +172,7 @@ module _ (n : ℕ) where
             omega arith,
             (omega arith, omega arith),
             small i,
-            good-⊕ n true 3 name (optionValue base s t start len) (text-good n 3 kName (textIn clnpOptions [] t) (omega arith) (omega arith, omega arith) (text-low clnpOptions t)) (value-good t start len (w .2)),
+            good-⊕ n true 3 name (optionValue base s t start len) (text-good n 3 kName (textIn clnpOptions [] t) (omega arith) (omega arith, omega arith) (text-low clnpOptions [] t)) (value-good t start len (w .2)),
           ),
           tt,
         )

@@ -9,9 +9,9 @@ use lib.Dec.{eqb, ltb}
 use lib.ListN.{length, getD, take, drop, length-take}
 use Rattle.octets.specs.Text.{pick}
 use Rattle.octets.proofs.Tests.{and-right}
+use Rattle.octets.proofs.Picks.{pick-elim, pick-yes, pick-no}
 use Rattle.names.specs.Numbers.{tCr, tCc, tDr, tDc, tDt, tEd, tAk, tEa, tRj, tEr, kParams}
 use Rattle.cells.specs.Items.{none, inList}
-use Rattle.fields.proofs.Picks.{pick-elim, pick-yes, pick-no}
 use Rattle.cotp.specs.Params.{paramItems}
 use Rattle.cotp.specs.Tpdu.{nameOf, fixedLen, seqOf, creditMembers, fixedMembers, paramPart, hasUser, partial}
 use Rattle.cotp.specs.declared.tpdu.Head.{Head}

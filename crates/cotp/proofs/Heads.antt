@@ -8,9 +8,9 @@ use borrow.Author.Tests.{ltb-false}
 use lib.Dec.{ltb, eqb}
 use lib.ListN.{length, getD}
 use Rattle.octets.specs.Text.{pick}
+use Rattle.octets.proofs.Picks.{pick-elim, pick-yes, pick-no}
 use Rattle.cotp.specs.Tpdu.{nameOf, numbered, fixedLen, noHead, headBy, headOf}
 use Rattle.cotp.specs.declared.tpdu.Head.{Head}
-use Rattle.fields.proofs.Picks.{pick-elim, pick-yes, pick-no}
 
 -- ---- a length by the format
 pub long-format : (e : Bool) (n k : ℕ) → e ≡ true → pick e n 5 ≤ k → n ≤ k

@@ -8,8 +8,8 @@ use borrow.Author.Tests.{le-ltb, le-leb, ne-eqb}
 use lib.Dec.{eqb}
 use lib.ListN.{length, getD, drop, length-append}
 use lib.Seq.{getD-at, getD-append-add, take-at, drop-at}
-use Rattle.octets.specs.Read.{be16, be32, octetsOf}
-use Rattle.octets.proofs.Numbers.{be16-is, be32-is, number-back}
+use Rattle.octets.specs.Read.{be16}
+use Rattle.octets.proofs.Stands.{two-back}
 use Rattle.names.specs.Numbers.{kTpdu, kDstRef, kClass, kOptions, kReason, kReasonText, kRejectCause, kRejectCauseText, kExtended, kParams, kSrcRef, tCr, tCc, tDr, tDc, tEr}
 use Rattle.codes.specs.Codes.{textIn, disconnectReasons, rejectCauses}
 use Rattle.cells.specs.Items.{Items, none, leaf, number, text, inList, _⊕_}
@@ -22,16 +22,6 @@ use Rattle.cotp.specs.Params.{param, paramStep, paramItems, paramLeft}
 use Rattle.cotp.specs.Tpdu.{nameOf, numbered, fixedLen, headOf, fixedMembers, paramPart, userMembers, membersOf}
 use Rattle.cotp.specs.Layout.{laid, two, connectLaid, requestLaid, confirmLaid, errorLaid, Parameter, paramsLaid, paramsRead}
 use Rattle.cotp.specs.declared.tpdu.Head.{Head}
-
--- ---- numbers of two and of four octets
-pub two-back : (n : ℕ) (rest : List ℕ) → n < 65536 → be16 (getD (two n ++ rest) 0 0) (getD (two n ++ rest) 1 0) ≡ n
-two-back n rest h = sym (be16-is (getD (two n) 0 0) (getD (two n) 1 0)) ∙ number-back 2 n h
-
-pub four-back : (n : ℕ) (rest : List ℕ) → n < 4294967296
-    → be32 (getD (octetsOf 4 n ++ rest) 0 0) (getD (octetsOf 4 n ++ rest) 1 0) (getD (octetsOf 4 n ++ rest) 2 0) (getD (octetsOf 4 n ++ rest) 3 0) ≡ n
-four-back n rest h =
-    let o : List ℕ = octetsOf 4 n in
-    sym (be32-is (getD o 0 0) (getD o 1 0) (getD o 2 0) (getD o 3 0)) ∙ number-back 4 n h
 
 -- ---- a header and user data
 pub li-back : (header user : List ℕ) → getD (laid header user) 0 0 ≡ length header

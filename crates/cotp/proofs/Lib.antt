@@ -5,7 +5,6 @@ pub mod ByName
 pub mod Segments
 pub mod Cells
 pub mod Thin
-pub mod Says
 pub mod Determined
 pub mod WellFormed
 pub mod Laid

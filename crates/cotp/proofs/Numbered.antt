@@ -11,6 +11,7 @@ use lib.ListN.{length, getD, take, drop, length-append}
 use Rattle.octets.specs.Text.{pick}
 use Rattle.octets.specs.Read.{be16, be32, bigEndian}
 use Rattle.octets.proofs.Numbers.{be32-is}
+use Rattle.octets.proofs.Stands.{two-back, four-back}
 use Rattle.names.specs.Numbers.{kRoa, kEot, kTpduSeq, kCredit, tDt, tEd, tAk, tEa, tRj}
 use Rattle.cells.specs.Items.{Items, none, leaf, number, flag, _⊕_}
 use Rattle.cotp.specs.Tpdu.{nameOf, numbered, fixedLen, noHead, headOf, seqOf, creditMembers, fixedMembers}
@@ -20,7 +21,7 @@ use Rattle.cotp.specs.declared.tpdu.Head.{Head}
 use Rattle.cotp.specs.declared.segment.Segment.{Segment}
 use Rattle.cotp.specs.declared.segment.Segment.the-variants.{Absent, Piece}
 use Rattle.cotp.proofs.Segments.{is-piece}
-use Rattle.cotp.proofs.Laid.{two-back, four-back, head-is, Read, read-by}
+use Rattle.cotp.proofs.Laid.{head-is, Read, read-by}
 
 -- ---- a number under an end mark
 abbrev pub limit : Bool → ℕ

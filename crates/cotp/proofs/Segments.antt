@@ -9,7 +9,7 @@ use lib.Dec.{ltb, eqb}
 use lib.ListN.{length, getD, drop}
 use Rattle.octets.specs.Text.{pick}
 use Rattle.octets.specs.Read.{be16}
-use Rattle.fields.proofs.Picks.{pick-elim}
+use Rattle.octets.proofs.Picks.{pick-elim}
 use Rattle.cotp.specs.Tpdu.{seqOf}
 use Rattle.cotp.specs.Segment.{segmentOf, userFrom}
 use Rattle.cotp.specs.declared.segment.Segment.{Segment}

@@ -7,6 +7,7 @@ use native.Mathlib.Omega.{arith}
 use lib.Dec.{eqb, leb}
 use lib.ListN.{length, getD, length-append}
 use Rattle.octets.specs.Read.{be16}
+use Rattle.octets.proofs.Picks.{pick-elim}
 use Rattle.names.specs.Numbers.{kCode, kName, kTpduSize, kValue, kValueHex, kTpdu, kDstRef, kSrcRef, kClass, kOptions, kReason, kReasonText, kRejectCause, kRejectCauseText, kRoa, kEot, kTpduSeq, kCredit, kExtended, kParams, kUserDataLen, kTsduSegment, tCr, tCc, tDr, tDc, tDt, tEd, tEa, tEr}
 use Rattle.codes.specs.Codes.{textIn, cotpParams, disconnectReasons, rejectCauses}
 use Rattle.cells.specs.Items.{Items, none, leaf, number, flag, octet, text, recordOf, inList, _⊕_, flat}
@@ -19,7 +20,6 @@ use Rattle.cells.proofs.Walks.{Thin, thin, fuse, flat-walk}
 use Rattle.cells.proofs.Answers.{enough}
 use Rattle.fields.specs.Tlv.{tlvAt}
 use Rattle.fields.specs.Member.{optText, optYes}
-use Rattle.fields.proofs.Picks.{pick-elim}
 use Rattle.fields.proofs.Tlvs.{Whole, tlv-whole}
 use Rattle.fields.proofs.Sizes.{size, rows, empty, one, text-thin, yes-thin, part-thin}
 use Rattle.cotp.specs.Params.{twoOctets, paramValue, param, paramStep, paramItems}

@@ -10,17 +10,11 @@ use lib.ListN.{getD}
 use lib.Pow.{pow-pos}
 use Rattle.octets.specs.Text.{pick}
 use Rattle.octets.specs.Read.{be16, be32}
-use Rattle.octets.specs.Emit.{Emits}
 use Rattle.octets.proofs.Tests.{no-true, and-left, and-right}
-use Rattle.octets.proofs.Emits.{emits-as}
+use Rattle.octets.proofs.Picks.{pick-elim, pick-yes, pick-no}
 use Rattle.names.specs.Numbers.{kTpduSize, kValue, kValueHex}
-use Rattle.cells.specs.Items.{Items, none, leaf, number, part, flat}
-use Rattle.fields.proofs.Picks.{pick-elim, pick-yes, pick-no}
+use Rattle.cells.specs.Items.{Items, none, leaf, number, part}
 use Rattle.cotp.specs.Params.{twoOctets, paramValue}
-
--- what is put, as a row that is equal
-pub row-as : {o p : List ℕ} {at n : ℕ} (d : ℕ) {xs ys : Items} → xs ≡ ys → Emits o at (flat d xs) p n → Emits o at (flat d ys) p n
-row-as d e f = emits-as (ap (flat d) e) f
 
 -- ---- sizes of TPDUs
 abbrev pub isSize : ℕ → Bool

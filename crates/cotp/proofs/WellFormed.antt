@@ -1,7 +1,7 @@
 -- The members of a TPDU are a good row at any depth and place, and the cells of a readable TPDU read back as its record.
-use Prim.Native.Nat.{ℕ, suc, _+_, _*_, _-_, _/_, _^_, _≤_, _<_}
+use Prim.Native.Nat.{ℕ, _+_, _*_, _-_, _/_, _^_, _≤_, _<_}
 use mathlib.Core.Path.{_≡_, refl, sym, ap, _∙_}
-use mathlib.Core.List.{List, [], _∷_}
+use mathlib.Core.List.{List, []}
 use mathlib.Core.Bool.{Bool, true, false, _&&_, _||_}
 use mathlib.Core.Option.{some}
 use native.Mathlib.Omega.{arith}
@@ -10,10 +10,10 @@ use lib.Dec.{eqb, leb}
 use lib.ListN.{length, getD, drop, length-take, length-drop}
 use lib.Pow.{pow-mono}
 use Rattle.octets.proofs.Tests.{and-right}
-use Rattle.names.specs.Place.{same, placeFrom}
-use Rattle.names.specs.Texts.{allTexts, numberOf}
-use Rattle.names.specs.Numbers.{lastText, texts-counted, kName, kReasonText, kRejectCauseText, kExtended, kParams, kTsduSegment, tCr, tCc, tDr, tDc, tDt, tEd, tEa, tEr}
-use Rattle.codes.specs.Codes.{Row, nameIn, textIn, cotpParams, disconnectReasons, rejectCauses}
+use Rattle.octets.proofs.Picks.{pick-elim}
+use Rattle.names.specs.Numbers.{lastText, kName, kReasonText, kRejectCauseText, kExtended, kParams, kTsduSegment, tCr, tCc, tDr, tDc, tDt, tEd, tEa, tEr}
+use Rattle.codes.specs.Codes.{textIn, cotpParams, disconnectReasons, rejectCauses}
+use Rattle.codes.proofs.Lows.{text-low}
 use Rattle.cells.specs.Items.{Items, none, _⊕_, inList}
 use Rattle.cells.specs.Read.{itemsOf}
 use Rattle.cells.specs.Good.{GoodRow}
@@ -25,7 +25,6 @@ use Rattle.cells.proofs.Walks.{Each, all}
 use Rattle.cells.proofs.WellFormed.{reads-back}
 use Rattle.fields.specs.Tlv.{tlvAt}
 use Rattle.fields.specs.Member.{optText, optYes}
-use Rattle.fields.proofs.Picks.{pick-elim}
 use Rattle.fields.proofs.Tlvs.{Whole, tlv-whole}
 use Rattle.fields.proofs.Goods.{Octets, text-good, yes-good, take-small, drop-small}
 use Rattle.cotp.specs.Params.{twoOctets, paramValue, param, paramStep, paramItems}
@@ -37,15 +36,6 @@ use Rattle.cotp.proofs.ByName.{every}
 use Rattle.cotp.proofs.Cells.{cells-are}
 
 -- ---- text numbers are listed
-place-low : (n k : ℕ) (xs : List (List ℕ)) (t : List ℕ) → k + length xs ≤ n + 1 → placeFrom k xs t ≤ n
-unfolding placeFrom
-place-low n k [] t h = omega arith
-place-low n k (x ∷ xs) t h = pick-elim (λ (p : ℕ). p ≤ n) (same x t) (λ e. omega arith) (λ e. place-low n (suc k) xs t (omega arith))
-
-pub text-low : (rows : List Row) (c : ℕ) → textIn rows [] c ≤ lastText
-unfolding textIn numberOf
-text-low rows c = place-low lastText 0 allTexts (nameIn rows [] c) (omega (arith, texts-counted))
-
 name-low : (high : ℕ) → nameOf high ≤ lastText
 name-low high =
     every (λ k. k ≤ lastText) (omega arith) (omega arith) (omega arith) (omega arith) (omega arith) (omega arith) (omega arith) (omega arith) (omega arith) (omega arith) (omega arith) high
@@ -75,7 +65,7 @@ module _ (n : ℕ) where
           let name : Items = optText kName (textIn cotpParams [] t) in
           let value : Items = paramValue base s t i len in
           let l : d + 1 < 16 = omega arith in
-          (omega arith, refl, (l, (omega arith, omega arith), low, good-⊕ n true (d + 1) name value (text-good n (d + 1) kName (textIn cotpParams [] t) l (omega arith, omega arith) (text-low cotpParams t)) (value-good (d + 1) t i len l h)), tt)
+          (omega arith, refl, (l, (omega arith, omega arith), low, good-⊕ n true (d + 1) name value (text-good n (d + 1) kName (textIn cotpParams [] t) l (omega arith, omega arith) (text-low cotpParams [] t)) (value-good (d + 1) t i len l h)), tt)
 
       abbrev good : Items → Type 0
       good c = GoodRow n false d c
@@ -112,10 +102,10 @@ module _ (n : ℕ) where
         pick-elim row (eqb k tCr || eqb k tCc)
         (λ h. (deep, (omega arith, omega arith), omega (arith, small 4, small 5), (deep, (omega arith, omega arith), omega (arith, small 6), (deep, (omega arith, omega arith), omega arith, tt))))
         (λ h. pick-elim row (eqb k tDr)
-        (λ h. (deep, (omega arith, omega arith), omega (arith, small 4, small 5), (deep, (omega arith, omega arith), omega (arith, small 6), text-good n d kReasonText (textIn disconnectReasons [] (getD s 6 0)) deep (omega arith, omega arith) (text-low disconnectReasons (getD s 6 0)))))
+        (λ h. (deep, (omega arith, omega arith), omega (arith, small 4, small 5), (deep, (omega arith, omega arith), omega (arith, small 6), text-good n d kReasonText (textIn disconnectReasons [] (getD s 6 0)) deep (omega arith, omega arith) (text-low disconnectReasons [] (getD s 6 0)))))
         (λ h. pick-elim row (eqb k tDc) (λ h. src-good)
         (λ h. pick-elim row (eqb k tEr)
-        (λ h. (deep, (omega arith, omega arith), omega (arith, small 4), text-good n d kRejectCauseText (textIn rejectCauses [] (getD s 4 0)) deep (omega arith, omega arith) (text-low rejectCauses (getD s 4 0))))
+        (λ h. (deep, (omega arith, omega arith), omega (arith, small 4), text-good n d kRejectCauseText (textIn rejectCauses [] (getD s 4 0)) deep (omega arith, omega arith) (text-low rejectCauses [] (getD s 4 0))))
         (λ h. pick-elim row (eqb k tDt) (λ h. (deep, (omega arith, omega arith), omega arith, data-good e))
         (λ h. pick-elim row (eqb k tEd) (λ h. data-good e) (λ h. pick-elim row (eqb k tEa) (λ h. seq-good e) (λ h. credit-good e)))))))
 

@@ -9,9 +9,9 @@ use lib.Dec.{ltb, leb}
 use lib.ListN.{length, getD}
 use Rattle.octets.specs.Text.{pick}
 use Rattle.octets.proofs.Tests.{and-left}
+use Rattle.octets.proofs.Picks.{pick-elim}
 use Rattle.names.specs.Numbers.{kAddresses}
 use Rattle.cells.specs.Items.{Items, none, leaf, group, part, inList, _⊕_}
-use Rattle.fields.proofs.Picks.{pick-elim}
 use Rattle.esis.specs.Pdu.{addressOk, addressItems, addressEnd}
 
 -- a test of a function's answer, turned round

@@ -8,22 +8,14 @@ use native.Mathlib.Omega.{arith}
 use borrow.Author.Tests.{le-leb, lt-leb}
 use lib.Dec.{leb}
 use lib.ListN.{length, getD, take, drop, length-append, length-drop}
-use lib.Seq.{take-at, drop-at, drop-drop, getD-drop}
+use lib.Seq.{take-at}
 use Rattle.octets.proofs.Tests.{and-false}
+use Rattle.octets.proofs.Stands.{next, first-of}
 use Rattle.cells.specs.Items.{Items, none, leaf, part, _⊕_}
 use Rattle.cells.proofs.Rows.{⊕-none}
 use Rattle.esis.specs.Pdu.{addressOk, addressItems, addressEnd}
 use Rattle.esis.specs.Layout.{addressesLaid, addressesRead, AddressesStand, Short}
 use Rattle.esis.proofs.Addresses.{items-zero, items-bad, items-more, end-zero, end-bad, end-more}
-
--- ---- a part that stands at a place
--- what follows it
-pub next : (s a rest : List ℕ) (p : ℕ) → drop p s ≡ a ++ rest → drop (p + length a) s ≡ rest
-next s a rest p e = sym (drop-drop (length a) p s) ∙ ap (drop (length a)) e ∙ drop-at a rest (length a) refl
-
--- its first octet
-pub first-of : (s rest : List ℕ) (p : ℕ) → drop p s ≡ rest → getD s p 0 ≡ getD rest 0 0
-first-of s rest p e = rw add-zero at (sym (getD-drop p s 0 0) ∙ ap (λ (z : List ℕ). getD z 0 0) e)
 
 -- where the octets end
 pub ends : (s rest : List ℕ) (p : ℕ) → drop p s ≡ rest → 0 < length rest → length s ≡ p + length rest

@@ -4,15 +4,15 @@ use mathlib.Core.List.{List, [], _∷_, _++_}
 use mathlib.Core.Path.{_≡_, refl, sym, ap, ap₂, _∙_}
 use native.Mathlib.Omega.{arith}
 use lib.ListN.{length, getD, drop, length-append}
-use Rattle.octets.specs.Read.{be16, octetsOf}
-use Rattle.octets.proofs.Numbers.{be16-is, number-back}
+use Rattle.octets.specs.Read.{be16}
+use Rattle.octets.proofs.Stands.{two-back, next}
 use Rattle.names.specs.Numbers.{kProtocol, kPayloadLen, kType, kHoldingTimeS, kAddresses, kOptions, tEsIs}
 use Rattle.cells.specs.Items.{Items, none, leaf, number, text, inList, _⊕_}
 use Rattle.esis.specs.Pdu.{typeCode, typeOf, addressItems, addressEnd, addressCount, addressesAt, optionItems, optionsAt, optionMember, membersOf}
 use Rattle.esis.specs.Layout.{Fields, Right, laid, addressesLaid, addressesRead, AddressesStand, Short, Option, optionsLaid, optionsRead, OptionsStand, eshLaid, ishLaid, recordRead, eshRead, ishRead}
 use Rattle.esis.proofs.Addresses.{items-zero}
 use Rattle.esis.proofs.Records.{count-esh, count-ish, count-none, place-esh, place-other, optionsFrom, member-read-esh, member-read-ish, member-none, addressesOf, long-members}
-use Rattle.esis.proofs.AddressesLaid.{next, oneLaid, items-all, end-all, items-long, end-long, rest-long, addresses-stand}
+use Rattle.esis.proofs.AddressesLaid.{oneLaid, items-all, end-all, items-long, end-long, rest-long, addresses-stand}
 use Rattle.esis.proofs.OptionsLaid.{options-walk, options-stand}
 
 -- ---- the fixed part
@@ -22,11 +22,8 @@ pub record HeadRead (s : List ℕ) (f : Fields) (rest : List ℕ) : Type 0 where
   pub behind : drop 9 s ≡ rest
   pub long : length s ≡ 9 + length rest
 
-two-back : (n : ℕ) → n < 65536 → be16 (getD (octetsOf 2 n) 0 0) (getD (octetsOf 2 n) 1 0) ≡ n
-two-back n h = sym (be16-is (getD (octetsOf 2 n) 0 0) (getD (octetsOf 2 n) 1 0)) ∙ number-back 2 n h
-
 pub head-back : (f : Fields) (rest : List ℕ) → Right f → HeadRead (laid f rest) f rest
-head-back f rest r = record { type = omega (arith, r .type); holding = two-back (f .holding) (r .holding); behind = refl; long = omega arith }
+head-back f rest r = record { type = omega (arith, r .type); holding = two-back (f .holding) [] (r .holding); behind = refl; long = omega arith }
 
 -- the record, by its fixed part
 told : (s : List ℕ) (f : Fields) (rest : List ℕ) → HeadRead s f rest → membersOf s ≡ recordRead f (length s) (addressesOf s ⊕ optionMember s)

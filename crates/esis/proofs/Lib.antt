@@ -2,7 +2,7 @@ pub mod Addresses
 pub mod Options
 pub mod Records
 pub mod Thin
-pub mod Says
+pub mod Cells
 pub mod Determined
 pub mod WellFormed
 pub mod AddressesLaid

@@ -5,20 +5,14 @@ use mathlib.Core.List.{List, [], _∷_}
 use mathlib.Core.Bool.{false}
 use native.Mathlib.Omega.{arith}
 use lib.ListN.{length, getD}
-use Rattle.octets.specs.Emit.{Emits}
-use Rattle.octets.proofs.Emits.{emits-as}
 use Rattle.names.specs.Numbers.{kOptions}
-use Rattle.cells.specs.Items.{Items, none, group, inList, flat, _⊕_}
+use Rattle.cells.specs.Items.{Items, none, group, inList, _⊕_}
 use Rattle.cells.specs.Walk.{stepOf, itemsFrom, leftFrom}
 use Rattle.cells.specs.declared.entry.Entry.the-variants.{Stop, Body}
 use Rattle.cells.proofs.Walks.{turn, done, over}
 use Rattle.fields.specs.Tlv.{tlvAt}
 use Rattle.fields.proofs.Tlvs.{whole-at}
 use Rattle.esis.specs.Pdu.{option, optionStep, optionItems}
-
--- what is put, as another row
-pub row-as : {o p : List ℕ} {at n : ℕ} (d : ℕ) {xs ys : Items} → xs ≡ ys → Emits o at (flat d xs) p n → Emits o at (flat d ys) p n
-row-as d e f = emits-as (ap (flat d) e) f
 
 -- ---- the member: none of a part with no first entry
 no-entry : (base : ℕ) (s : List ℕ) → 0 < length s → tlvAt s 0 ≡ Stop → inList kOptions (optionItems base s) ≡ none

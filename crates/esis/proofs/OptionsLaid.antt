@@ -7,6 +7,7 @@ use native.Mathlib.Omega.{arith}
 use borrow.Author.Tests.{le-leb}
 use lib.ListN.{length, getD, take, drop, length-append}
 use lib.Seq.{getD-at, getD-append-add, take-at}
+use Rattle.octets.proofs.Stands.{next}
 use Rattle.cells.specs.Items.{Items, none, _⊕_}
 use Rattle.cells.specs.Walk.{walkFrom}
 use Rattle.cells.specs.declared.entry.Entry.the-variants.{Body}
@@ -14,7 +15,6 @@ use Rattle.cells.proofs.Walks.{turn, over}
 use Rattle.fields.specs.Tlv.{tlvAt}
 use Rattle.esis.specs.Pdu.{option, optionStep, optionItems, optionLeft}
 use Rattle.esis.specs.Layout.{Option, optionsLaid, optionsRead, OptionsStand}
-use Rattle.esis.proofs.AddressesLaid.{next}
 
 abbrev one : Option → List ℕ
 one o = o .code ∷ length (o .value) ∷ o .value

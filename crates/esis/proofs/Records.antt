@@ -10,10 +10,10 @@ use lib.Dec.{ltb, eqb}
 use lib.ListN.{length, getD, take, drop, List·getD-eq-default}
 use Rattle.octets.specs.Text.{pick}
 use Rattle.octets.specs.Read.{be16}
+use Rattle.octets.proofs.Picks.{pick-elim, pick-yes, pick-no}
 use Rattle.names.specs.Numbers.{kProtocol, kPayloadLen, kType, kHoldingTimeS, kAddresses, kOptions, tEsIs}
 use Rattle.cells.specs.Items.{Items, none, leaf, number, text, inList, _⊕_}
 use Rattle.cells.proofs.Answers.{rest}
-use Rattle.fields.proofs.Picks.{pick-elim, pick-yes, pick-no}
 use Rattle.esis.specs.Pdu.{typeCode, typeOf, addressItems, addressCount, addressesAt, optionItems, optionsAt, optionMember, headMembers, membersOf}
 
 module _ (s : List ℕ) where

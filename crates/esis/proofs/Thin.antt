@@ -9,6 +9,7 @@ use native.Mathlib.Omega.{arith}
 use lib.Dec.{eqb, ltb}
 use lib.ListN.{length, getD, drop, length-append, length-drop}
 use Rattle.octets.specs.Text.{pick}
+use Rattle.octets.proofs.Picks.{pick-elim}
 use Rattle.names.specs.Ascii.{octets}
 use Rattle.names.specs.Numbers.{kType, kAddresses, kOptions, kTypeCode, kValueHex}
 use Rattle.codes.specs.Codes.{textIn, esisOptions}
@@ -21,7 +22,6 @@ use Rattle.cells.proofs.Rows.{group-size, in-list-thin}
 use Rattle.cells.proofs.Walks.{Thin, thin, fuse, flat-walk}
 use Rattle.cells.proofs.Answers.{enough}
 use Rattle.fields.specs.Tlv.{tlvAt}
-use Rattle.fields.proofs.Picks.{pick-elim}
 use Rattle.fields.proofs.Tlvs.{Whole, tlv-whole}
 use Rattle.fields.proofs.Sizes.{size, rows, empty, one}
 use Rattle.esis.specs.Pdu.{typeCode, addressOk, addressItems, addressEnd, addressCount, addressesAt, option, optionStep, optionItems, optionsAt, optionMember, headMembers, membersOf, esisCells}

@@ -9,6 +9,7 @@ use native.Mathlib.Decide.{decLe}
 use native.Mathlib.Omega.{arith}
 use lib.Dec.{eqb, ltb}
 use lib.ListN.{length, getD, drop, length-drop}
+use Rattle.octets.proofs.Picks.{pick-elim}
 use Rattle.names.specs.Ascii.{octets}
 use Rattle.names.specs.Place.{same, placeFrom}
 use Rattle.names.specs.Texts.{texts, numberOf}
@@ -24,13 +25,12 @@ use Rattle.cells.proofs.Rows.{good-⊕, good-in-list}
 use Rattle.cells.proofs.Walks.{Each, all}
 use Rattle.cells.proofs.WellFormed.{reads-back}
 use Rattle.fields.specs.Tlv.{tlvAt}
-use Rattle.fields.proofs.Picks.{pick-elim}
 use Rattle.fields.proofs.Tlvs.{Whole, tlv-whole}
 use Rattle.fields.proofs.Goods.{Octets, drop-small}
 use Rattle.esis.specs.Pdu.{typeCode, typeOf, addressOk, addressItems, addressCount, addressesAt, option, optionStep, optionItems, optionsAt, optionMember, headMembers, membersOf, esisCells}
 use Rattle.esis.proofs.Addresses.{behind, there, end-within}
 use Rattle.esis.proofs.Records.{first, headOf, addressesOf, place-within, short-members, long-members}
-use Rattle.esis.proofs.Says.{cells-are}
+use Rattle.esis.proofs.Cells.{cells-are}
 
 -- ---- text numbers are listed
 abbrev Listed : ℕ → Type 0

@@ -7,10 +7,10 @@ use native.Mathlib.Omega.{arith}
 use borrow.Author.Tests.{eqb-false}
 use lib.Dec.{eqb}
 use lib.ListN.{getD, take, drop}
+use Rattle.octets.proofs.Picks.{pick-elim}
 use Rattle.names.specs.Numbers.{lastText}
 use Rattle.cells.specs.Good.{Key, GoodRow}
 use Rattle.fields.specs.Member.{optText, optYes}
-use Rattle.fields.proofs.Picks.{pick-elim}
 
 pub text-good : (n d f t : ℕ) → d < 16 → Key true f → t ≤ lastText → GoodRow n true d (optText f t)
 text-good n d f t l k h =

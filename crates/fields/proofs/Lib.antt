@@ -1,4 +1,3 @@
-pub mod Picks
 pub mod Tlvs
 pub mod Sizes
 pub mod Goods

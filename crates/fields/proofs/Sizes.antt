@@ -7,10 +7,10 @@ use native.Mathlib.Omega.{arith}
 use mathlib.Core.List.{List}
 use lib.Dec.{eqb}
 use lib.ListN.{length, take, drop, length-append, length-take, length-drop}
+use Rattle.octets.proofs.Picks.{pick-elim}
 use Rattle.cells.specs.Items.{Leaf, Items, none, leaf, flag, text, _⊕_, flat}
 use Rattle.cells.proofs.Rows.{flat-none, flat-⊕}
 use Rattle.fields.specs.Member.{optText, optYes}
-use Rattle.fields.proofs.Picks.{pick-elim}
 
 abbrev pub size : ℕ → Items → ℕ
 size d xs = length (flat d xs)

@@ -5,10 +5,10 @@ use mathlib.Core.List.{List}
 use borrow.Author.Tests.{leb-true}
 use lib.Dec.{leb}
 use lib.ListN.{length, getD}
+use Rattle.octets.proofs.Picks.{pick-elim}
 use Rattle.cells.specs.declared.entry.Entry.{Entry}
 use Rattle.cells.specs.declared.entry.Entry.the-variants.{Stop, Body}
 use Rattle.fields.specs.Tlv.{tlvAt}
-use Rattle.fields.proofs.Picks.{pick-elim}
 
 -- it starts two octets behind its position, has as many octets as the second of these says, and ends within the part
 abbrev pub Whole : List ℕ → ℕ → Entry → Type 0

@@ -9,12 +9,12 @@ use lib.Dec.{ltb, eqb}
 use lib.ListN.{length, getD}
 use Rattle.octets.specs.Text.{pick}
 use Rattle.octets.proofs.Tests.{and-right}
+use Rattle.octets.proofs.Picks.{pick-yes, pick-no}
 use Rattle.names.specs.Numbers.{kValue, kValueHex, kPathAttributes}
 use Rattle.cells.specs.Items.{Items, none, leaf, group, number, part, flat}
 use Rattle.cells.specs.Walk.{stop, entry, stepOf, leftFrom, cellsFrom}
 use Rattle.cells.specs.declared.entry.Entry.the-variants.{Stop, Body}
 use Rattle.cells.proofs.Walks.{turn, done, over}
-use Rattle.fields.proofs.Picks.{pick-yes, pick-no}
 use Rattle.idrp.specs.Update.{at16, attributesAt, attributesFrom, attributesEnd, shown, attributeValue, attribute, attributeAt, attributeStep, attributeItems, attributesPlace, attributesMember}
 use Rattle.idrp.proofs.Entries.{Attribute, attribute-whole}
 

@@ -9,12 +9,12 @@ use lib.Dec.{eqb, leb}
 use lib.ListN.{length, getD, drop}
 use Rattle.octets.specs.Text.{pick}
 use Rattle.octets.specs.Read.{octetsOf}
+use Rattle.octets.proofs.Picks.{pick-yes, pick-no}
 use Rattle.names.specs.Numbers.{kUpdate, kWithdrawnRoutes, kPathAttributes, kNlri, kProtoType, kClnp, kPrefixes}
 use Rattle.cells.specs.Items.{Items, none, leaf, group, number, flag, prefix, inList, _⊕_}
 use Rattle.cells.specs.Walk.{stop, stepOf, walkBy, walkFrom, itemsFrom}
 use Rattle.cells.specs.declared.entry.Entry.the-variants.{Stop, Body}
 use Rattle.cells.proofs.Walks.{done}
-use Rattle.fields.proofs.Picks.{pick-yes, pick-no}
 use Rattle.idrp.specs.Update.{at16, attributesAt, attributeAt, attributeItems, attributesPlace, nlriAddresses, nlriLen, nlriAt, nlri, nlriStep, nlriItems, updateReadable, routesMember, attributesMember, updateMembers}
 use Rattle.idrp.specs.Pdu.{bodyMembers}
 use Rattle.idrp.specs.Layout as layout

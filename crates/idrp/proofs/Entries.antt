@@ -5,9 +5,9 @@ use mathlib.Core.List.{List}
 use borrow.Author.Tests.{leb-true}
 use lib.Dec.{leb, ltb}
 use lib.ListN.{length, getD}
+use Rattle.octets.proofs.Picks.{pick-elim}
 use Rattle.cells.specs.declared.entry.Entry.{Entry}
 use Rattle.cells.specs.declared.entry.Entry.the-variants.{Stop, Body}
-use Rattle.fields.proofs.Picks.{pick-elim}
 use Rattle.idrp.specs.Update.{at16, attributeAt, prefixAt, nlriAddresses, nlriLen, nlriAt}
 
 -- an attribute's value starts four octets behind its position and has as many octets as two of these say

@@ -10,15 +10,15 @@ use lib.ListN.{length, getD, take, drop, length-append}
 use lib.Seq.{take-at, drop-at}
 use Rattle.octets.specs.Text.{pick}
 use Rattle.octets.specs.Read.{be16, be32, octetsOf}
+use Rattle.octets.proofs.Stands.{two-back, four-back}
+use Rattle.octets.proofs.Picks.{pick-no}
 use Rattle.names.specs.Ascii.{octets}
 use Rattle.names.specs.Numbers.{kProtocol, kPayloadLen, kBispduLen, kType, kSequence, kAck, kCreditOffered, kCreditAvail, kOpen, kVersion, kHoldTimeS, kMaxPduSize, kSrcRdi, kErrorCode, kError, kErrorSubcode, kErrorSubcodeText, tIdrp}
 use Rattle.codes.specs.Codes.{textIn, idrpTypes, idrpErrors, errorSubcodes}
 use Rattle.cells.specs.Items.{Items, none, leaf, group, number, text, part, _⊕_}
 use Rattle.fields.specs.Member.{optText}
-use Rattle.fields.proofs.Picks.{pick-no}
 use Rattle.idrp.specs.Pdu.{openMembers, bodyMembers, membersOf}
 use Rattle.idrp.specs.Layout.{Fields, laid, Right, recordRead, Open, openLaid, openRead, errorLaid}
-use Rattle.idrp.proofs.Stands.{two-back, four-back}
 
 -- ---- the header
 abbrev before : Fields → ℕ → List ℕ

@@ -5,10 +5,9 @@ pub mod Attributes
 pub mod Prefixes
 pub mod Nlris
 pub mod Updates
-pub mod Members
 pub mod Records
 pub mod Thin
-pub mod Says
+pub mod Cells
 pub mod Determined
 pub mod WellFormed
 pub mod Stands

@@ -1,28 +1,18 @@
 -- The text numbers of a record are listed, and none of those that are always given is 0.
-use Prim.Native.Nat.{ℕ, suc, _+_, _≤_, _<_}
+use Prim.Native.Nat.{ℕ, _≤_, _<_}
 use mathlib.Core.Path.{_≡_, refl}
 use mathlib.Core.List.{List, [], _∷_}
 use mathlib.Core.Bool.{Bool, true, _&&_}
-use native.Mathlib.Omega.{arith}
 use borrow.Author.Tests.{ltb-true}
 use lib.Dec.{eqb, ltb}
-use lib.ListN.{length}
 use Rattle.octets.proofs.Tests.{and-left, and-right}
+use Rattle.octets.proofs.Picks.{pick-elim}
 use Rattle.names.specs.Ascii.{octets}
 use Rattle.names.specs.Place.{same, placeFrom}
-use Rattle.names.specs.Texts.{texts, allTexts, numberOf}
-use Rattle.names.specs.Numbers.{lastText, texts-counted}
+use Rattle.names.specs.Texts.{texts, numberOf}
+use Rattle.names.specs.Numbers.{lastText}
 use Rattle.codes.specs.Codes.{Row, nameIn, textIn, idrpTypes, idrpErrors, idrpAttributes}
-use Rattle.fields.proofs.Picks.{pick-elim}
-
-place-low : (n k : ℕ) (xs : List (List ℕ)) (t : List ℕ) → k + length xs ≤ n + 1 → placeFrom k xs t ≤ n
-unfolding placeFrom
-place-low n k [] t h = omega arith
-place-low n k (x ∷ xs) t h = pick-elim (λ (p : ℕ). p ≤ n) (same x t) (λ e. omega arith) (λ e. place-low n (suc k) xs t (omega arith))
-
-pub text-low : (rows : List Row) (other : List ℕ) (c : ℕ) → textIn rows other c ≤ lastText
-unfolding textIn numberOf
-text-low rows other c = place-low lastText 0 allTexts (nameIn rows other c) (omega (arith, texts-counted))
+use Rattle.codes.proofs.Lows.{text-low}
 
 -- every row's name is one of the texts
 abbrev named : List Row → Bool

@@ -9,13 +9,13 @@ use native.Mathlib.Omega.{arith}
 use borrow.Author.Tests.{leb-true}
 use lib.Dec.{leb}
 use lib.ListN.{length, take, drop}
+use Rattle.octets.proofs.Picks.{pick-elim}
 use Rattle.names.specs.Numbers.{kNlri}
 use Rattle.cells.specs.Items.{Items, none, group, inList, flat, _⊕_}
 use Rattle.cells.specs.Walk.{stepOf, itemsFrom, cellsFrom}
 use Rattle.cells.specs.declared.entry.Entry.{Entry}
 use Rattle.cells.specs.declared.entry.Entry.the-variants.{Stop, Body}
 use Rattle.cells.proofs.Walks.{turn, done, over}
-use Rattle.fields.proofs.Picks.{pick-elim}
 use Rattle.idrp.specs.Update.{prefixItems, nlriAddresses, nlriLen, nlriAt, nlri, nlriStep}
 
 -- ---- an entry that was found lies within the body, and has seven octets

@@ -9,12 +9,12 @@ use lib.Dec.{eqb, ltb, leb}
 use lib.ListN.{length, getD, take, drop, length-append}
 use Rattle.octets.specs.Text.{pick}
 use Rattle.octets.specs.Read.{octetsOf}
+use Rattle.octets.proofs.Picks.{pick-elim}
 use Rattle.names.specs.Numbers.{kProtoType, kClnp, kPrefixes}
 use Rattle.cells.specs.Items.{Items, none, leaf, group, number, flag, prefix, _⊕_}
 use Rattle.cells.specs.Walk.{stop, entry, stepOf, itemsFrom}
 use Rattle.cells.specs.declared.entry.Entry.the-variants.{Stop, Body}
 use Rattle.cells.proofs.Walks.{turn, done, over}
-use Rattle.fields.proofs.Picks.{pick-elim}
 use Rattle.idrp.specs.Update.{at16, prefixStep, prefixItems, nlriAddresses, nlriLen, nlriAt, isClnp, nlri, nlriStep}
 use Rattle.idrp.specs.Layout.{Prefix, prefixesLaid, prefixesRead, PrefixesRight, PrefixesStand, Reach, reachLaid, reachesLaid, clnpReach, reachRead, reachesRead, ReachesRight, ReachesStand, reachesGiven}
 use Rattle.idrp.proofs.Stands.{From, long, octet, first, next, part-at, two-at}

@@ -9,13 +9,13 @@ use lib.Dec.{ltb, eqb}
 use lib.ListN.{length, getD, take, drop, length-drop}
 use Rattle.octets.specs.Text.{pick}
 use Rattle.octets.specs.Read.{be16, be32}
+use Rattle.octets.proofs.Picks.{pick-yes, pick-no}
 use Rattle.names.specs.Ascii.{octets}
 use Rattle.names.specs.Numbers.{kProtocol, kPayloadLen, kSequence, kAck, kCreditOffered, kCreditAvail, kOpen, kUpdate, kErrorCode, kError, kErrorSubcode, kErrorSubcodeText, kVersion, kHoldTimeS, kMaxPduSize, kSrcRdi, tIdrp}
 use Rattle.codes.specs.Codes.{textIn, idrpErrors, errorSubcodes}
 use Rattle.cells.specs.Items.{Items, none, leaf, group, number, text, part, _⊕_}
 use Rattle.cells.proofs.Answers.{rest}
 use Rattle.fields.specs.Member.{optText}
-use Rattle.fields.proofs.Picks.{pick-yes, pick-no}
 use Rattle.idrp.specs.Update.{updateReadable, updateMembers}
 use Rattle.idrp.specs.Pdu.{openMembers, errorMembers, bodyMembers, numberMembers, creditMembers, headMembers, membersOf}
 

@@ -7,10 +7,10 @@ use native.Mathlib.Omega.{arith}
 use borrow.Author.Tests.{eq-eqb, ne-eqb}
 use lib.ListN.{getD}
 use Rattle.octets.specs.Read.{be32}
+use Rattle.octets.proofs.Picks.{pick-yes, pick-no}
 use Rattle.names.specs.Numbers.{kWithdrawnRoutes}
 use Rattle.cells.specs.Items.{Items, none, leaf, group, word, flat}
 use Rattle.cells.proofs.Rows.{flat-none, flat-⊕}
-use Rattle.fields.proofs.Picks.{pick-yes, pick-no}
 use Rattle.idrp.specs.Update.{routeItems, withdrawn, routesMember}
 
 abbrev pub route : List ℕ → ℕ → Items

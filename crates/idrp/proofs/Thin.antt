@@ -11,6 +11,7 @@ use lib.ListN.{length, getD, take, drop, length-append, length-take, length-drop
 use Rattle.octets.specs.Read.{be16, be32}
 use Rattle.octets.specs.Text.{pick}
 use Rattle.octets.proofs.Tests.{and-left, and-right}
+use Rattle.octets.proofs.Picks.{pick-elim}
 use Rattle.names.specs.Ascii.{octets}
 use Rattle.names.specs.Numbers.{kProtocol, kPayloadLen, kBispduLen, kType, kSequence, kAck, kCreditOffered, kCreditAvail, kOpen, kUpdate, kErrorCode, kError, kErrorSubcode, kErrorSubcodeText, kVersion, kHoldTimeS, kMaxPduSize, kSrcRdi, kWithdrawnRoutes, kPathAttributes, kTypeCode, kValue, kValueHex, kNlri, kProtoType, kClnp, kPrefixes, tIdrp}
 use Rattle.codes.specs.Codes.{textIn, idrpTypes, idrpErrors, errorSubcodes, idrpAttributes}
@@ -23,7 +24,6 @@ use Rattle.cells.proofs.Rows.{group-size, in-list-thin}
 use Rattle.cells.proofs.Walks.{Thin, thin-from, fuse, flat-walk}
 use Rattle.cells.proofs.Answers.{enough, readable}
 use Rattle.fields.specs.Member.{optText}
-use Rattle.fields.proofs.Picks.{pick-elim}
 use Rattle.fields.proofs.Sizes.{size, rows, empty, one, text-thin}
 use Rattle.idrp.specs.Update.{at16, withdrawn, routeItems, attributesAt, attributesFrom, attributesEnd, shown, attributeValue, attribute, attributeAt, attributeStep, attributeItems, attributesPlace, prefixAt, prefixStep, prefixItems, nlriAt, isClnp, nlri, nlriStep, routesWhole, attributesWhole, updateReadable, routesMember, attributesMember, nlriItems, updateMembers}
 use Rattle.idrp.specs.Pdu.{openMembers, errorMembers, bodyMembers, numberMembers, creditMembers, headMembers, membersOf, idrpCells}

@@ -12,6 +12,8 @@ use lib.ListN.{length, getD, length-append, List·getD-append}
 use Rattle.octets.specs.Text.{pick}
 use Rattle.octets.specs.Read.{octetsOf}
 use Rattle.octets.proofs.Tests.{and-right}
+use Rattle.octets.proofs.Stands.{two-back}
+use Rattle.octets.proofs.Picks.{pick-elim}
 use Rattle.names.specs.Ascii.{octets}
 use Rattle.names.specs.Numbers.{kType, kTypeCode, kValue, kValueHex}
 use Rattle.codes.specs.Codes.{textIn, idrpAttributes}
@@ -19,11 +21,10 @@ use Rattle.cells.specs.Items.{Items, none, leaf, group, number, text, part, wor
 use Rattle.cells.specs.Walk.{stop, entry, stepOf, walkFrom, leftFrom}
 use Rattle.cells.specs.declared.entry.Entry.the-variants.{Stop, Body}
 use Rattle.cells.proofs.Walks.{turn, done, over}
-use Rattle.fields.proofs.Picks.{pick-elim}
 use Rattle.idrp.specs.Update.{at16, withdrawn, routeItems, attributesAt, attributesFrom, attributesEnd, shown, attributeValue, attribute, attributeAt, attributeStep, attributeItems, attributesPlace, updateReadable}
 use Rattle.idrp.specs.Layout as layout
 use Rattle.idrp.specs.Layout.{routesLaid, routesRead, RoutesRight, Attribute, attributeLaid, attributesLaid, valueRead, attributeRead, attributesRead, AttributesStand, AttributesRight, attributesGiven, reachesLaid, updateLaid, BodyRight, attributesBegin, reachBegin}
-use Rattle.idrp.proofs.Stands.{From, long, octet, first, next, part-at, two-back, two-at, four-at}
+use Rattle.idrp.proofs.Stands.{From, long, octet, first, next, part-at, two-at, four-at}
 
 -- ---- withdrawn routes
 pub routes-long : (rs : List ℕ) → length (routesLaid rs) ≡ 4 * length rs

@@ -11,9 +11,11 @@ use lib.Dec.{eqb, leb, ltb}
 use lib.ListN.{length, getD, take, drop, length-take, length-drop}
 use Rattle.octets.specs.Read.{be16, be32}
 use Rattle.octets.specs.Text.{pick}
+use Rattle.octets.proofs.Picks.{pick-elim}
 use Rattle.names.specs.Ascii.{octets}
 use Rattle.names.specs.Numbers.{kNlri, kErrorSubcodeText}
 use Rattle.codes.specs.Codes.{textIn, errorSubcodes}
+use Rattle.codes.proofs.Lows.{text-low}
 use Rattle.cells.specs.Items.{Items, none, leaf, prefix, _⊕_}
 use Rattle.cells.specs.Read.{itemsOf}
 use Rattle.cells.specs.Good.{GoodRow, Good}
@@ -23,12 +25,11 @@ use Rattle.cells.specs.declared.entry.Entry.the-variants.{Stop, Body}
 use Rattle.cells.proofs.Rows.{good-⊕, good-in-list}
 use Rattle.cells.proofs.Walks.{Each, all-from}
 use Rattle.cells.proofs.WellFormed.{reads-back}
-use Rattle.fields.proofs.Picks.{pick-elim}
 use Rattle.fields.proofs.Goods.{Octets, text-good, take-small, drop-small}
 use Rattle.idrp.specs.Update.{at16, withdrawn, routeItems, attributesAt, attributesFrom, attributesEnd, shown, attributeValue, attribute, attributeAt, attributeStep, attributeItems, attributesPlace, prefixAt, prefixStep, prefixItems, nlriAt, isClnp, nlri, nlriStep, updateReadable, routesMember, attributesMember, nlriItems, updateMembers}
 use Rattle.idrp.specs.Pdu.{openMembers, errorMembers, bodyMembers, numberMembers, creditMembers, headMembers, membersOf, idrpCells}
 use Rattle.idrp.proofs.Entries.{Attribute, attribute-whole, Prefix, prefix-whole, Nlri, nlri-whole}
-use Rattle.idrp.proofs.Listed.{text-low, type-listed, error-listed, attribute-listed}
+use Rattle.idrp.proofs.Listed.{type-listed, error-listed, attribute-listed}
 
 module _ (s : List ℕ) (small : Octets s) where
   one-low : (i : ℕ) → getD s i 0 < 4294967296

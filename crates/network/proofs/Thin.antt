@@ -6,9 +6,9 @@ use mathlib.Core.List.{List, []}
 use native.Mathlib.Omega.{arith}
 use lib.Dec.{eqb}
 use lib.ListN.{length, getD}
+use Rattle.octets.proofs.Picks.{pick-elim}
 use Rattle.cells.specs.Answer.{numberOf, answerTo}
 use Rattle.cells.proofs.Answers.{enough}
-use Rattle.fields.proofs.Picks.{pick-elim}
 use Rattle.clnp.proofs.Thin as clnp
 use Rattle.esis.proofs.Thin as esis
 use Rattle.idrp.proofs.Thin as idrp

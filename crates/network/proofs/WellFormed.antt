@@ -9,16 +9,16 @@ use borrow.Author.Tests.{eqb-true, eqb-false}
 use lib.Dec.{eqb}
 use lib.ListN.{length, getD}
 use Rattle.octets.specs.Text.{pick}
+use Rattle.octets.proofs.Picks.{pick-no}
 use Rattle.cells.specs.Items.{Items, recordOf, flat}
 use Rattle.cells.specs.Read.{itemsOf}
 use Rattle.cells.specs.Good.{Good}
 use Rattle.cells.proofs.WellFormed.{reads-back}
 use Rattle.fields.proofs.Goods.{Octets}
-use Rattle.fields.proofs.Picks.{pick-no}
 use Rattle.clnp.specs.Pdu.{hasAddresses, clnpCells}
 use Rattle.clnp.specs.Pdu as clnp
 use Rattle.clnp.specs.Segment.{headed, addressesOf}
-use Rattle.clnp.proofs.Says.{cells-are}
+use Rattle.clnp.proofs.Cells.{cells-are}
 use Rattle.clnp.proofs.WellFormed as clnp-good
 use Rattle.esis.specs.Pdu.{esisCells}
 use Rattle.esis.specs.Pdu as esis

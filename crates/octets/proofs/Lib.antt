@@ -4,3 +4,5 @@ pub mod Numbers
 pub mod Digits
 pub mod Tests
 pub mod Table
+pub mod Picks
+pub mod Stands

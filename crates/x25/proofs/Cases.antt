@@ -8,6 +8,7 @@ use native.Mathlib.Omega.{arith}
 use borrow.Author.Tests.{leb-true, ltb-false}
 use lib.Dec.{ltb, leb, eqb}
 use lib.ListN.{length, getD}
+use Rattle.octets.proofs.Picks.{pick-elim}
 use Rattle.names.specs.Numbers.{lastText, tCallRequest, tCallAccepted, tClearRequest, tResetRequest, tRestartRequest, tClearConfirmation, tResetConfirmation, tRestartConfirmation, tRr, tRnr, tRej}
 use Rattle.codes.specs.Codes.{Row, clearCauses, resetCauses, restartCauses}
 use Rattle.x25.specs.Sndcf.{fieldAt}
@@ -17,7 +18,6 @@ use Rattle.x25.specs.declared.sndcf.Field.the-variants.{Absent, Found}
 use Rattle.x25.specs.declared.packet.Octet.{Octet}
 use Rattle.x25.specs.declared.packet.Octet.the-variants.{Nothing, Is}
 use Rattle.x25.specs.declared.packet.Packet.{Packet}
-use Rattle.x25.proofs.Picks.{pick-elim}
 use Rattle.x25.proofs.ByType.{has-length}
 
 -- the number of a text

@@ -7,6 +7,7 @@ use native.Mathlib.Omega.{arith}
 use borrow.Author.Tests.{leb-true}
 use lib.Dec.{ltb, leb}
 use lib.ListN.{length, getD, length-append}
+use Rattle.octets.proofs.Picks.{pick-elim}
 use Rattle.names.specs.Numbers.{kFacilities}
 use Rattle.cells.specs.Items.{Items, none, group, inList, _⊕_, flat}
 use Rattle.cells.specs.Walk.{stepOf, itemsFrom, leftFrom}
@@ -14,7 +15,6 @@ use Rattle.cells.specs.declared.entry.Entry.{Entry}
 use Rattle.cells.specs.declared.entry.Entry.the-variants.{Stop, Body}
 use Rattle.cells.proofs.Walks.{Thin, thin, fuse, flat-walk, turn, done, over}
 use Rattle.x25.specs.Facility.{bodyAt, facAt, facility, facStep, facItems}
-use Rattle.x25.proofs.Picks.{pick-elim}
 
 -- an entry that was found has two octets or more, and ends within the part
 abbrev pub Within : ℕ → ℕ → Entry → Type 0

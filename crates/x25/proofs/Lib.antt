@@ -1,4 +1,3 @@
-pub mod Picks
 pub mod Facilities
 pub mod ByType
 pub mod Packets

@@ -5,7 +5,8 @@ use Prim.Native.Nat.{ℕ}
 use Rattle.names.specs.Numbers.{kLcn, kKind, kPs, kPr, kMore, kCause, kCauseText, kDiagnostic, kDiagnosticText}
 use Rattle.cells.specs.Items.{Items, none, leaf, number, flag, text, _⊕_}
 use Rattle.cells.proofs.Rows.{⊕-assoc}
-use Rattle.x25.specs.Packet.{optNumber, optText, optSndcf, facMember, membersOf}
+use Rattle.fields.specs.Member.{optText}
+use Rattle.x25.specs.Packet.{optNumber, optSndcf, facMember, membersOf}
 use Rattle.x25.specs.declared.packet.Packet.{Packet}
 
 abbrev pub headOf : Packet → Items

@@ -1,34 +1,23 @@
 -- The numbers of a packet fit the cells of its record.
-use Prim.Native.Nat.{ℕ, suc, _+_, _≤_, _<_}
-use mathlib.Core.List.{List, [], _∷_}
+use Prim.Native.Nat.{ℕ, _≤_, _<_}
+use mathlib.Core.List.{List, []}
 use native.Mathlib.Omega.{arith}
 use lib.Dec.{ltb}
 use lib.ListN.{length, getD}
-use Rattle.names.specs.Place.{same, placeFrom}
-use Rattle.names.specs.Texts.{allTexts, numberOf}
-use Rattle.names.specs.Numbers.{lastText, texts-counted}
-use Rattle.codes.specs.Codes.{Row, nameIn, textIn, diagnostics}
+use Rattle.octets.proofs.Picks.{pick-elim}
+use Rattle.names.specs.Numbers.{lastText}
+use Rattle.codes.specs.Codes.{Row, diagnostics}
+use Rattle.codes.proofs.Lows.{text-low}
 use Rattle.x25.specs.Packet.{octetAt, plain, unreadable, lcnOf, dataOf, received, causeIn, textOf, requestOf, diagnosticOf, callWith, packetOf}
 use Rattle.x25.specs.declared.packet.Octet.{Octet}
 use Rattle.x25.specs.declared.packet.Octet.the-variants.{Nothing, Is}
 use Rattle.x25.specs.declared.packet.Packet.{Packet}
-use Rattle.x25.proofs.Picks.{pick-elim}
 use Rattle.x25.proofs.Cases.{From, octet-from, every}
 
 -- ---- text numbers are listed
-place-low : (n k : ℕ) (xs : List (List ℕ)) (t : List ℕ) → k + length xs ≤ n + 1 → placeFrom k xs t ≤ n
-unfolding placeFrom
-place-low n k [] t h = omega arith
-place-low n k (x ∷ xs) t h =
-    pick-elim (λ (p : ℕ). p ≤ n) (same x t) (λ e. omega arith) (λ e. place-low n (suc k) xs t (omega arith))
-
-text-low : (rows : List Row) (c : ℕ) → textIn rows [] c ≤ lastText
-unfolding textIn numberOf
-text-low rows c = place-low lastText 0 allTexts (nameIn rows [] c) (omega (arith, texts-counted))
-
 text-of-low : (rows : List Row) (o : Octet) → textOf rows o ≤ lastText
 text-of-low rows Nothing = omega arith
-text-of-low rows (Is c) = text-low rows c
+text-of-low rows (Is c) = text-low rows [] c
 
 -- ---- numbers fit
 abbrev pub Low : Octet → Type 0

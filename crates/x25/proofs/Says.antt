@@ -1,65 +1,21 @@
--- The answers on a packet that was read, and where its payload starts.
-use Prim.Native.Nat.{ℕ, _+_, _*_, _≤_, _<_}
-use mathlib.Core.Path.{_≡_, refl, sym, ap, subst, _∙_}
+-- What a packet that was read holds, and where its payload starts.
+use Prim.Native.Nat.{ℕ, _≤_}
+use mathlib.Core.Path.{_≡_, sym, ap, subst, _∙_}
 use mathlib.Core.List.{List}
-use mathlib.Core.Bool.{true}
 use native.Mathlib.Omega.{arith}
 use lib.Dec.{eqb}
 use lib.ListN.{length}
 use Rattle.octets.specs.Text.{pick}
-use Rattle.octets.specs.Emit.{top, onFrom, Emits}
-use Rattle.cells.specs.Items.{recordOf, flat}
-use Rattle.cells.specs.Answer.{numberOf, Parsed}
+use Rattle.octets.proofs.Picks.{pick-elim}
+use Rattle.cells.specs.Answer.{numberOf}
 use Rattle.cells.specs.declared.answer.Answer.{Answer}
-use Rattle.cells.specs.declared.answer.Answer.the-variants.{Whole, Unreadable, Short}
-use Rattle.cells.proofs.Rows.{group-size}
-use Rattle.cells.proofs.Answers as answers
-use Rattle.x25.specs.Packet.{packetOf, membersOf, x25Cells, payloadFor, x25Answer}
+use Rattle.x25.specs.Packet.{packetOf, payloadFor, x25Answer}
 use Rattle.x25.specs.declared.packet.Packet.{Packet}
-use Rattle.x25.proofs.Picks.{pick-elim}
-use Rattle.x25.proofs.Cells.{no-cells, cells-are}
 use Rattle.x25.proofs.Cases.{Fits, fits}
-use Rattle.x25.proofs.Thin.{record-thin}
-
--- the place behind cells that are some and for which there is room
-placed : {o new xs : List ℕ} {n : ℕ} (room : ℕ) → Emits o 0 xs new n → 0 < length xs → length xs ≤ room → (0 < n) × (n ≤ room)
-unfolding onFrom
-placed room e p h = omega (arith, e .place)
-
-some-place : {o new xs : List ℕ} {n : ℕ} → Emits o 0 xs new n → 0 < length xs → 0 < n
-unfolding onFrom
-some-place e p = omega (arith, e .place)
 
 module _ (s : List ℕ) (x : Packet) (e : x ≡ packetOf s) where
   pub fits-read : Fits s x
   fits-read = subst (Fits s) (sym e) (fits s)
-
-  abbrev cells : List ℕ
-  cells = flat 0 (recordOf (membersOf s x))
-
-  some : 0 < length cells
-  some = omega (arith, group-size 0 true 0 (membersOf s x))
-
-  module _ (old : List ℕ) (low : length s ≤ 65535) where
-    pub says-unreadable : x .kind ≡ 0 → Parsed (length s) (x25Cells s) old Unreadable old
-    says-unreadable k = answers.unreadable low (no-cells s x e k)
-
-    module _ (k : x .kind ≡ 0 → ⊥) where
-      -- one pass, with room for every record
-      pub says-once : {new : List ℕ} {n : ℕ} → 4 * length s + 64 ≤ length old → length old < top → Emits old 0 cells new n → Parsed (length s) (x25Cells s) old (Whole n) new
-      says-once {new} {n} h b w =
-          let p = placed (length old) w some (omega (arith, record-thin s x)) in
-          answers.whole low refl (cells-are s x e k) (p .0) (p .1) b w
-
-      -- counted, and too many
-      pub says-short : {o p new : List ℕ} {n : ℕ} → new ≡ old → length old < n → Emits o 0 cells p n → Parsed (length s) (x25Cells s) old Short new
-      says-short q h w = answers.short low q (cells-are s x e k) h w
-
-      -- counted, and then written
-      pub says-whole : {o p q new : List ℕ} {n m : ℕ} → o ≡ old → n ≤ length old → length old < top → Emits p 0 cells q n → Emits o 0 cells new m → Parsed (length s) (x25Cells s) old (Whole n) new
-      says-whole {o} {p} {q} {new} {n} {m} z h b v w =
-          let same : m ≡ n = w .place ∙ sym (v .place) in
-          answers.whole low z (cells-are s x e k) (some-place v some) h b (subst (λ (i : ℕ). Emits o 0 cells new i) same w)
 
   -- where the payload starts
   pub payload-within : (a : Answer) → pick (eqb (numberOf a) 0) (x .payload) (length s) ≤ length s

@@ -1,46 +1,31 @@
 -- How many cells a packet's record has at most, so that an output with that many is never short.
 use Prim.Native.Nat.{ℕ, _+_, _*_, _/_, _%_, _≤_}
-use mathlib.Core.Path.{_≡_, refl, ap, _∙_}
+use mathlib.Core.Path.{_≡_, ap}
 use mathlib.Core.List.{List}
 use mathlib.Core.Bool.{true, false}
-use native.Mathlib.Nat.{min-le-right}
 use native.Mathlib.Omega.{arith}
 use lib.Dec.{eqb}
-use lib.ListN.{length, take, drop, length-append, length-take, length-drop}
+use lib.ListN.{length, take, drop}
+use Rattle.octets.proofs.Picks.{pick-elim}
 use Rattle.names.specs.Numbers.{kSndcf, kCompressionOptions, kCompressionAlgos, kMaintenance, kVersion, kFacilities, kLcn, kKind, kPs, kPr, kMore, kCause, kCauseText, kDiagnostic, kDiagnosticText, tAca, tDeflate, tLref, tLrefCan}
-use Rattle.cells.specs.Items.{Leaf, Items, none, leaf, group, number, flag, text, recordOf, _⊕_, flat}
+use Rattle.cells.specs.Items.{Items, none, leaf, group, number, flag, text, recordOf, _⊕_, flat}
 use Rattle.cells.specs.Answer.{numberOf}
-use Rattle.cells.proofs.Rows.{flat-none, flat-⊕, group-size, in-list-thin}
+use Rattle.cells.proofs.Rows.{group-size, in-list-thin}
 use Rattle.cells.proofs.Answers.{enough}
+use Rattle.fields.specs.Member.{optText}
+use Rattle.fields.proofs.Sizes.{size, rows, empty, one, text-thin, part-thin}
 use Rattle.x25.specs.Facility.{facItems}
 use Rattle.x25.specs.Sndcf.{algorithm, algorithms, versionMember, sndcfMember}
-use Rattle.x25.specs.Packet.{optNumber, optText, optSndcf, facMember, membersOf, packetOf, x25Cells, x25Answer}
+use Rattle.x25.specs.Packet.{optNumber, optSndcf, facMember, membersOf, packetOf, x25Cells, x25Answer}
 use Rattle.x25.specs.declared.packet.Octet.{Octet}
 use Rattle.x25.specs.declared.packet.Octet.the-variants.{Nothing, Is}
 use Rattle.x25.specs.declared.packet.Packet.{Packet}
-use Rattle.x25.proofs.Picks.{pick-elim}
 use Rattle.x25.proofs.Facilities.{fac-thin}
 use Rattle.x25.proofs.Members.{headOf, causesOf, callsOf, members-are}
-
-abbrev size : ℕ → Items → ℕ
-size d xs = length (flat d xs)
-
-rows : (d : ℕ) (xs ys : Items) → size d (xs ⊕ ys) ≡ size d xs + size d ys
-rows d xs ys = ap length (flat-⊕ d xs ys) ∙ length-append (flat d xs) (flat d ys)
-
-empty : (d : ℕ) → size d none ≡ 0
-empty d = ap length (flat-none d)
-
-one : (d f : ℕ) (v : Leaf) → size d (leaf f v none) ≡ 1
-unfolding flat
-one d f v = refl
 
 number-thin : (f : ℕ) (o : Octet) → size 1 (optNumber f o) ≤ 1
 number-thin f Nothing = omega (arith, empty 1)
 number-thin f (Is v) = omega (arith, one 1 f (number v))
-
-text-thin : (f t : ℕ) → size 1 (optText f t) ≤ 1
-text-thin f t = pick-elim (λ (x : Items). size 1 x ≤ 1) (eqb t 0) (λ h. omega (arith, empty 1)) (λ h. omega (arith, one 1 f (text t)))
 
 algorithm-thin : (bit t : ℕ) → size 3 (algorithm bit t) ≤ 1
 algorithm-thin bit t = pick-elim (λ (x : Items). size 3 x ≤ 1) (eqb bit 1) (λ h. omega (arith, one 3 0 (text t))) (λ h. omega (arith, empty 3))
@@ -79,9 +64,6 @@ negotiated-thin : (o : Octet) (v : ℕ) → size 1 (optSndcf o v) ≤ 11
 negotiated-thin Nothing v = omega (arith, empty 1)
 negotiated-thin (Is o) v = sndcf-thin o v
 
-part-thin : (n k : ℕ) (s : List ℕ) → length (take n (drop k s)) ≤ length s
-part-thin n k s = omega (arith, length-take n (drop k s), length-drop k s, min-le-right n (length (drop k s)))
-
 fac-member-thin : (s : List ℕ) (x : Packet) → size 1 (facMember s x) ≤ 2 * length s + 2
 fac-member-thin s x =
     let p : List ℕ = take (x .faclen) (drop (x .facat) s) in
@@ -113,7 +95,7 @@ causes-thin x =
     let b : Items = optText kCauseText (x .causetext) in
     let c : Items = optNumber kDiagnostic (x .diagnostic) in
     let d : Items = optText kDiagnosticText (x .diagtext) in
-    omega (arith, rows 1 a (b ⊕ (c ⊕ d)), rows 1 b (c ⊕ d), rows 1 c d, number-thin kCause (x .cause), text-thin kCauseText (x .causetext), number-thin kDiagnostic (x .diagnostic), text-thin kDiagnosticText (x .diagtext))
+    omega (arith, rows 1 a (b ⊕ (c ⊕ d)), rows 1 b (c ⊕ d), rows 1 c d, number-thin kCause (x .cause), text-thin 1 kCauseText (x .causetext), number-thin kDiagnostic (x .diagnostic), text-thin 1 kDiagnosticText (x .diagtext))
 
 pub record-thin : (s : List ℕ) (x : Packet) → length (flat 0 (recordOf (membersOf s x))) ≤ 2 * length s + 24
 record-thin s x =

@@ -1,13 +1,13 @@
 -- The cells of a readable packet read back as its record.
-use Prim.Native.Nat.{ℕ, zero, suc, _+_, _/_, _%_, _≤_, _<_}
+use Prim.Native.Nat.{ℕ, _+_, _/_, _%_, _≤_, _<_}
 use mathlib.Core.Path.{_≡_, refl, sym, ap, subst, _∙_}
-use mathlib.Core.List.{List, [], _∷_}
+use mathlib.Core.List.{List}
 use mathlib.Core.Bool.{true, false}
 use mathlib.Core.Option.{some}
 use native.Mathlib.Omega.{arith}
-use borrow.Author.Tests.{eqb-false}
 use lib.Dec.{eqb}
 use lib.ListN.{length, getD, take, drop, length-take, length-drop}
+use Rattle.octets.proofs.Picks.{pick-elim}
 use Rattle.names.specs.Numbers.{lastText, kPs, kPr, kMore, kCause, kCauseText, kDiagnostic, kDiagnosticText, kFacilities, tAca, tDeflate, tLref, tLrefCan}
 use Rattle.cells.specs.Items.{Items, none, leaf, flag, _⊕_}
 use Rattle.cells.specs.Read.{itemsOf}
@@ -18,30 +18,19 @@ use Rattle.cells.specs.declared.entry.Entry.the-variants.{Stop, Body}
 use Rattle.cells.proofs.Rows.{good-⊕, good-in-list}
 use Rattle.cells.proofs.Walks.{Each, all}
 use Rattle.cells.proofs.WellFormed.{reads-back}
+use Rattle.fields.specs.Member.{optText}
+use Rattle.fields.proofs.Goods.{text-good, take-small, drop-small}
 use Rattle.x25.specs.Facility.{facAt, facility, facStep, facItems}
 use Rattle.x25.specs.Sndcf.{algorithm, algorithms, versionMember, sndcfMember}
-use Rattle.x25.specs.Packet.{optNumber, optText, optSndcf, facMember, membersOf, packetOf, x25Cells}
+use Rattle.x25.specs.Packet.{optNumber, optSndcf, facMember, membersOf, packetOf, x25Cells}
 use Rattle.x25.specs.declared.packet.Octet.{Octet}
 use Rattle.x25.specs.declared.packet.Octet.the-variants.{Nothing, Is}
 use Rattle.x25.specs.declared.packet.Packet.{Packet}
-use Rattle.x25.proofs.Picks.{pick-elim}
 use Rattle.x25.proofs.Facilities.{Within, fac-within}
 use Rattle.x25.proofs.Members.{headOf, causesOf, callsOf, members-are}
 use Rattle.x25.proofs.Cells.{cells-are}
 use Rattle.x25.proofs.Cases.{every, fits}
 use Rattle.x25.proofs.Numbers.{Low, numbers}
-
--- ---- octets of a part are octets
-take-small : (n : ℕ) (l : List ℕ) → ((i : ℕ) → getD l i 0 < 256) → (i : ℕ) → getD (take n l) i 0 < 256
-take-small zero l h i = omega arith
-take-small (suc n) [] h i = h i
-take-small (suc n) (x ∷ l) h zero = h zero
-take-small (suc n) (x ∷ l) h (suc i) = take-small n l (λ j. h (suc j)) i
-
-drop-small : (n : ℕ) (l : List ℕ) → ((i : ℕ) → getD l i 0 < 256) → (i : ℕ) → getD (drop n l) i 0 < 256
-drop-small zero l h i = h i
-drop-small (suc n) [] h i = h i
-drop-small (suc n) (x ∷ l) h i = drop-small n l (λ j. h (suc j)) i
 
 -- ---- rows are good, for an input of n octets
 module _ (n : ℕ) where
@@ -64,11 +53,6 @@ module _ (n : ℕ) where
   number-good : (f : ℕ) (o : Octet) → Key true f → Low o → GoodRow n true 1 (optNumber f o)
   number-good f Nothing k h = tt
   number-good f (Is v) k h = (omega arith, k, h, tt)
-
-  text-good : (f t : ℕ) → Key true f → t ≤ lastText → GoodRow n true 1 (optText f t)
-  text-good f t k h =
-      pick-elim (GoodRow n true 1) (eqb t 0) (λ e. tt)
-      (λ e. let z : t ≡ 0 → ⊥ = eqb-false t 0 e in let p : 0 < t = omega (arith, z) in (omega arith, k, (p, h), tt))
 
   algorithm-good : (bit t : ℕ) → 0 < t → t ≤ lastText → GoodRow n false 3 (algorithm bit t)
   algorithm-good bit t p h = pick-elim (GoodRow n false 3) (eqb bit 1) (λ e. (omega arith, refl, (p, h), tt)) (λ e. tt)
@@ -137,8 +121,8 @@ module _ (s : List ℕ) (small : (i : ℕ) → getD s i 0 < 256) (readable : pac
       let c : Items = optNumber kDiagnostic (x .diagnostic) in
       let d : Items = optText kDiagnosticText (x .diagtext) in
       good-⊕ (length s) true 1 a (b ⊕ (c ⊕ d)) (number-good (length s) kCause (x .cause) (omega arith, omega arith) (w .cause-fits))
-      (good-⊕ (length s) true 1 b (c ⊕ d) (text-good (length s) kCauseText (x .causetext) (omega arith, omega arith) (w .causetext-low))
-      (good-⊕ (length s) true 1 c d (number-good (length s) kDiagnostic (x .diagnostic) (omega arith, omega arith) (w .diagnostic-low)) (text-good (length s) kDiagnosticText (x .diagtext) (omega arith, omega arith) (w .diagtext-low))))
+      (good-⊕ (length s) true 1 b (c ⊕ d) (text-good (length s) 1 kCauseText (x .causetext) (omega arith) (omega arith, omega arith) (w .causetext-low))
+      (good-⊕ (length s) true 1 c d (number-good (length s) kDiagnostic (x .diagnostic) (omega arith, omega arith) (w .diagnostic-low)) (text-good (length s) 1 kDiagnosticText (x .diagtext) (omega arith) (omega arith, omega arith) (w .diagtext-low))))
 
   pub good-members : Good (length s) (membersOf s x)
   good-members =

@@ -11,6 +11,7 @@ use Rattle.codes.specs.Codes.{Row, textIn, clearCauses, resetCauses, restartCau
 use Rattle.cells.specs.Items.{Items, none, leaf, number, flag, text, recordOf, inList, flat, _⊕_}
 use Rattle.cells.specs.Answer.{answerTo, numberOf}
 use Rattle.cells.specs.declared.answer.Answer.{Answer}
+use Rattle.fields.specs.Member.{optText}
 use Rattle.x25.specs.Facility.{facItems}
 use Rattle.x25.specs.Sndcf.{fieldAt, sndcfMember}
 use Rattle.x25.specs.declared.sndcf.Field.{Field}
@@ -211,9 +212,6 @@ packetOf s =
 abbrev pub optNumber : ℕ → Octet → Items
 optNumber f Nothing = none
 optNumber f (Is v) = leaf f (number v) none
-
-abbrev pub optText : ℕ → ℕ → Items
-optText f t = pick (eqb t 0) none (leaf f (text t) none)
 
 abbrev pub optSndcf : Octet → ℕ → Items
 optSndcf Nothing v = none

@@ -2,7 +2,10 @@ use borrow.Author.Needs.{needs}
 use Rattle.idrp.proofs.parse_idrp.Statement.{statement}
 use Rattle.idrp.proofs.parse_idrp.Tie as tie
 use Rattle.cells.proofs.Answers.{too-long, no-front}
-use Rattle.idrp.proofs.Says.{says-once, says-short, says-whole}
+use Rattle.cells.proofs.Once.{says-once, says-short, says-whole}
+use Rattle.idrp.specs.Pdu.{membersOf}
+use Rattle.idrp.proofs.Cells.{cells-are}
+use Rattle.idrp.proofs.Thin.{idrp-thin}
 
 returns : tie.Need-returns
 returns c = too-long (c .if1 .taken)
@@ -20,7 +23,7 @@ same-length : tie.Need-same-length
 same-length c = search needs
 
 returns-2 : tie.Need-returns-2
-returns-2 c = let a = c .before .before .before .before .before .before .before .before .args in says-once (a .b .now) (a .out .now) (c .before .before .before .before .before .if1 .left) (c .before .before .before .before .if2 .taken) (search needs) (c .before .before .put-record .ensures)
+returns-2 c = let a = c .before .before .before .before .before .before .before .before .args in says-once (membersOf (a .b .now)) (c .before .before .before .before .before .if1 .left) (cells-are (a .b .now)) (idrp-thin (a .b .now)) (c .before .before .before .before .if2 .taken) (search needs) (c .before .before .put-record .ensures)
 
 slice-relend-prefix-put-record : tie.Need-slice-relend-prefix-put-record
 slice-relend-prefix-put-record c = search needs
@@ -38,7 +41,7 @@ returns-3 : tie.Need-returns-3
 returns-3 c =
     let a = c .before .before .before .before .before .before .before .before .before .args in
     let z = no-front (c .before .before .before .put-record2 .last .0) (a .out .now) (c .before .before .before .put-record2 .kept .0) in
-    says-short (a .b .now) (a .out .now) (c .before .before .before .before .before .before .if1 .left) z (rw z at (c .if3 .taken)) (c .before .before .before .put-record2 .ensures)
+    says-short (membersOf (a .b .now)) (c .before .before .before .before .before .before .if1 .left) (cells-are (a .b .now)) z (rw z at (c .if3 .taken)) (c .before .before .before .put-record2 .ensures)
 
 put-record-requires-3 : tie.Need-put-record-requires-3
 put-record-requires-3 c κs = search needs
@@ -50,7 +53,7 @@ returns-4 : tie.Need-returns-4
 returns-4 c =
     let a = c .before .before .before .before .before .before .before .before .before .before .before .before .before .args in
     let z = no-front (c .before .before .before .before .before .before .before .put-record2 .last .0) (a .out .now) (c .before .before .before .before .before .before .before .put-record2 .kept .0) in
-    says-whole (a .b .now) (a .out .now) (c .before .before .before .before .before .before .before .before .before .before .if1 .left) z (rw z at (c .before .before .before .before .if3 .left)) (search needs) (c .before .before .before .before .before .before .before .put-record2 .ensures) (c .before .before .put-record3 .ensures)
+    says-whole (membersOf (a .b .now)) (c .before .before .before .before .before .before .before .before .before .before .if1 .left) (cells-are (a .b .now)) z (rw z at (c .before .before .before .before .if3 .left)) (search needs) (c .before .before .before .before .before .before .before .put-record2 .ensures) (c .before .before .put-record3 .ensures)
 
 pub parse-idrp-spec : {M : Type 1} → statement M
 parse-idrp-spec =

@@ -2,8 +2,12 @@ use borrow.Author.Needs.{needs}
 use Rattle.x25.proofs.answer_on.Statement.{statement}
 use Rattle.x25.proofs.answer_on.Tie as tie
 use native.Mathlib.Omega.{arith}
-use Rattle.cells.proofs.Answers.{too-long, no-front}
-use Rattle.x25.proofs.Says.{fits-read, says-unreadable, says-once, says-short, says-whole}
+use Rattle.cells.proofs.Answers.{too-long, unreadable, no-front}
+use Rattle.cells.proofs.Once.{says-once, says-short, says-whole}
+use Rattle.x25.specs.Packet.{membersOf}
+use Rattle.x25.proofs.Cells.{no-cells, cells-are}
+use Rattle.x25.proofs.Thin.{x25-thin}
+use Rattle.x25.proofs.Says.{fits-read}
 
 returns : tie.Need-returns
 returns c = too-long (c .if1 .taken)
@@ -11,7 +15,7 @@ returns c = too-long (c .if1 .taken)
 returns-2 : tie.Need-returns-2
 returns-2 c =
     let a = c .before .before .before .before .before .args in
-    says-unreadable (a .b .now) (a .x) (c .before .before .before .before .before .pre) (a .out .now) (c .before .before .if1 .left) (c .if2 .taken)
+    unreadable (c .before .before .if1 .left) (no-cells (a .b .now) (a .x) (c .before .before .before .before .before .pre) (c .if2 .taken))
 
 mul-if3 : tie.Need-mul-if3
 mul-if3 c = search needs
@@ -30,7 +34,7 @@ same-length c = search needs
 returns-3 : tie.Need-returns-3
 returns-3 c =
     let a = c .before .before .before .before .before .before .before .before .before .before .args in
-    says-once (a .b .now) (a .x) (c .before .before .before .before .before .before .before .before .before .before .pre) (a .out .now) (c .before .before .before .before .before .before .before .if1 .left) (c .before .before .before .before .before .if2 .left) (c .before .before .before .before .if3 .taken) (search needs) (c .before .before .put-record .ensures)
+    says-once (membersOf (a .b .now) (a .x)) (c .before .before .before .before .before .before .before .if1 .left) (cells-are (a .b .now) (a .x) (c .before .before .before .before .before .before .before .before .before .before .pre) (c .before .before .before .before .before .if2 .left)) (x25-thin (a .b .now)) (c .before .before .before .before .if3 .taken) (search needs) (c .before .before .put-record .ensures)
 
 slice-relend-prefix-put-record : tie.Need-slice-relend-prefix-put-record
 slice-relend-prefix-put-record c = search needs
@@ -50,7 +54,7 @@ returns-4 : tie.Need-returns-4
 returns-4 c =
     let a = c .before .before .before .before .before .before .before .before .before .before .before .args in
     let z = no-front (c .before .before .before .put-record2 .last .1 .1 .0) (a .out .now) (c .before .before .before .put-record2 .kept .1 .1 .0) in
-    says-short (a .b .now) (a .x) (c .before .before .before .before .before .before .before .before .before .before .before .pre) (a .out .now) (c .before .before .before .before .before .before .before .before .if1 .left) (c .before .before .before .before .before .before .if2 .left) z (rw z at (c .if4 .taken)) (c .before .before .before .put-record2 .ensures)
+    says-short (membersOf (a .b .now) (a .x)) (c .before .before .before .before .before .before .before .before .if1 .left) (cells-are (a .b .now) (a .x) (c .before .before .before .before .before .before .before .before .before .before .before .pre) (c .before .before .before .before .before .before .if2 .left)) z (rw z at (c .if4 .taken)) (c .before .before .before .put-record2 .ensures)
 
 put-record-requires-3 : tie.Need-put-record-requires-3
 put-record-requires-3 c κs =
@@ -64,7 +68,7 @@ returns-5 : tie.Need-returns-5
 returns-5 c =
     let a = c .before .before .before .before .before .before .before .before .before .before .before .before .before .before .before .args in
     let z = no-front (c .before .before .before .before .before .before .before .put-record2 .last .1 .1 .0) (a .out .now) (c .before .before .before .before .before .before .before .put-record2 .kept .1 .1 .0) in
-    says-whole (a .b .now) (a .x) (c .before .before .before .before .before .before .before .before .before .before .before .before .before .before .before .pre) (a .out .now) (c .before .before .before .before .before .before .before .before .before .before .before .before .if1 .left) (c .before .before .before .before .before .before .before .before .before .before .if2 .left) z (rw z at (c .before .before .before .before .if4 .left)) (search needs) (c .before .before .before .before .before .before .before .put-record2 .ensures) (c .before .before .put-record3 .ensures)
+    says-whole (membersOf (a .b .now) (a .x)) (c .before .before .before .before .before .before .before .before .before .before .before .before .if1 .left) (cells-are (a .b .now) (a .x) (c .before .before .before .before .before .before .before .before .before .before .before .before .before .before .before .pre) (c .before .before .before .before .before .before .before .before .before .before .if2 .left)) z (rw z at (c .before .before .before .before .if4 .left)) (search needs) (c .before .before .before .before .before .before .before .put-record2 .ensures) (c .before .before .put-record3 .ensures)
 
 pub answer-on-spec : {M : Type 1} → statement M
 answer-on-spec =

@@ -6,7 +6,7 @@ use mathlib.Core.Path.{ap}
 use mathlib.Core.List.{List}
 use Rattle.names.specs.Numbers.{kSecInfo}
 use Rattle.cells.specs.Items.{inList}
-use Rattle.cotp.proofs.Values.{row-as}
+use Rattle.cells.proofs.Rows.{row-as}
 use Rattle.clnp.specs.Label.{tagItems}
 use Rattle.clnp.proofs.Labels.{info-whole, info-cut}
 

@@ -2,8 +2,7 @@ use borrow.Author.Needs.{needs}
 use Rattle.clnp.proofs.label.put_label.Statement.{statement}
 use Rattle.clnp.proofs.label.put_label.Tie as tie
 use Rattle.octets.proofs.Emits.{nothing}
-use Rattle.cells.proofs.Rows.{then-row, flat-none}
-use Rattle.cotp.proofs.Values.{row-as}
+use Rattle.cells.proofs.Rows.{then-row, flat-none, row-as}
 use Rattle.clnp.proofs.Labels.{regOf, infoOf, no-label, no-reg, with-info, without}
 
 returns : tie.Need-returns

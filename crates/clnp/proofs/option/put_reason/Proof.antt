@@ -1,12 +1,12 @@
 use borrow.Author.Needs.{needs}
 use Rattle.clnp.proofs.option.put_reason.Statement.{statement}
 use Rattle.clnp.proofs.option.put_reason.Tie as tie
+use Rattle.cells.proofs.Rows.{row-as}
 use Rattle.clnp.proofs.option.put_reason.Reads as reads
 use Rattle.clnp.proofs.option.put_reason.Lts as lts
 use Rattle.cells.proofs.emit.put_number.Reads as put-number-reads
 use Rattle.clnp.proofs.option.put_octets.Reads as put-octets-reads
 use native.Mathlib.Omega.{arith}
-use Rattle.cotp.proofs.Values.{row-as}
 use Rattle.clnp.proofs.Options.{is-reason, no-reason}
 
 -- src/option.rt:67:47

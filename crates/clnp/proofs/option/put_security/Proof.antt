@@ -4,8 +4,7 @@ use Rattle.clnp.proofs.option.put_security.Tie as tie
 use mathlib.Core.Bool.{true}
 use Rattle.names.specs.Numbers.{kSecurityFormat, kSecurityLabel, tGloballyUnique}
 use Rattle.cells.specs.Items.{Items, none, leaf, group, text}
-use Rattle.cells.proofs.Rows.{around, then-row}
-use Rattle.cotp.proofs.Values.{row-as}
+use Rattle.cells.proofs.Rows.{around, then-row, row-as}
 use Rattle.clnp.proofs.Options.{labelled, label-part, no-format, is-secured, no-secured}
 
 put-octets-requires : tie.Need-put-octets-requires

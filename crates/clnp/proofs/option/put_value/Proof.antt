@@ -1,7 +1,7 @@
 use borrow.Author.Needs.{needs}
 use Rattle.clnp.proofs.option.put_value.Statement.{statement}
 use Rattle.clnp.proofs.option.put_value.Tie as tie
-use Rattle.cotp.proofs.Values.{row-as}
+use Rattle.cells.proofs.Rows.{row-as}
 use Rattle.clnp.proofs.Options.{as-typed, untyped}
 
 put-priority-requires : tie.Need-put-priority-requires

@@ -6,8 +6,7 @@ use mathlib.Core.Path.{_∙_, sym, subst, ap}
 use Rattle.names.specs.Numbers.{kDstNsap, kSrcNsap}
 use Rattle.octets.proofs.Emits.{nothing}
 use Rattle.cells.specs.Items.{Items, none, leaf, part}
-use Rattle.cells.proofs.Rows.{then-row, flat-none}
-use Rattle.cotp.proofs.Values.{row-as}
+use Rattle.cells.proofs.Rows.{then-row, flat-none, row-as}
 use Rattle.clnp.specs.Pdu.{addressMembers}
 use Rattle.clnp.proofs.Records.{Inside, inside, address-none}
 

@@ -3,8 +3,7 @@ use Rattle.clnp.proofs.record.put_data.Statement.{statement}
 use Rattle.clnp.proofs.record.put_data.Tie as tie
 use mathlib.Core.Path.{_∙_, sym}
 use Rattle.octets.proofs.Emits.{nothing}
-use Rattle.cells.proofs.Rows.{flat-none}
-use Rattle.cotp.proofs.Values.{row-as}
+use Rattle.cells.proofs.Rows.{flat-none, row-as}
 use Rattle.clnp.proofs.Records.{no-data, data-is}
 
 segmented-requires : tie.Need-segmented-requires

@@ -4,8 +4,7 @@ use Rattle.clnp.proofs.record.put_flags.Tie as tie
 use Rattle.octets.proofs.Emits.{nothing}
 use Rattle.names.specs.Numbers.{kErrorReport, kMoreSegments}
 use Rattle.cells.specs.Items.{Items, none, leaf, flag, _⊕_}
-use Rattle.cells.proofs.Rows.{then-row, flat-none}
-use Rattle.cotp.proofs.Values.{row-as}
+use Rattle.cells.proofs.Rows.{then-row, flat-none, row-as}
 use Rattle.clnp.specs.Segment.{more, report}
 use Rattle.clnp.specs.Pdu.{segmentMembers}
 use Rattle.clnp.proofs.Records.{flags-yes, flags-no}

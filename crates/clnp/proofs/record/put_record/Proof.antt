@@ -5,8 +5,7 @@ use native.Mathlib.Omega.{arith}
 use mathlib.Core.Bool.{true}
 use Rattle.octets.proofs.Tests.{and-left, and-right}
 use Rattle.cells.specs.Items.{_⊕_}
-use Rattle.cells.proofs.Rows.{around, then-row}
-use Rattle.cotp.proofs.Values.{row-as}
+use Rattle.cells.proofs.Rows.{around, then-row, row-as}
 use Rattle.clnp.specs.Segment.{headed, addressesOf}
 use Rattle.clnp.specs.Pdu.{addressMembers, hasAddresses, membersOf}
 use Rattle.clnp.proofs.Headers.{full}

@@ -9,9 +9,8 @@ use Rattle.octets.specs.Read.{be16}
 use Rattle.octets.proofs.Emits.{nothing}
 use Rattle.names.specs.Numbers.{kPduId, kSegmentOffset, kTotalLen, kSegmented}
 use Rattle.cells.specs.Items.{Items, none, leaf, number, _⊕_}
-use Rattle.cells.proofs.Rows.{then-row, flat-none}
+use Rattle.cells.proofs.Rows.{then-row, flat-none, row-as}
 use Rattle.fields.specs.Member.{optYes}
-use Rattle.cotp.proofs.Values.{row-as}
 use Rattle.clnp.specs.Pdu.{offsetOf, segmented}
 use Rattle.clnp.proofs.Records.{has-room, seg-yes, seg-no}
 

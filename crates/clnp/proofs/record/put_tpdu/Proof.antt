@@ -4,9 +4,8 @@ use Rattle.clnp.proofs.record.put_tpdu.Tie as tie
 use mathlib.Core.Bool.{true}
 use Rattle.names.specs.Numbers.{kCotp}
 use Rattle.octets.proofs.Emits.{nothing}
-use Rattle.cells.proofs.Rows.{around, flat-none}
+use Rattle.cells.proofs.Rows.{around, flat-none, row-as}
 use Rattle.cotp.specs.Tpdu as cotp
-use Rattle.cotp.proofs.Values.{row-as}
 use Rattle.clnp.proofs.Records.{no-tpdu, a-tpdu}
 
 read-requires : tie.Need-read-requires

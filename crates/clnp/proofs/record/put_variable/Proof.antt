@@ -2,8 +2,7 @@ use borrow.Author.Needs.{needs}
 use Rattle.clnp.proofs.record.put_variable.Statement.{statement}
 use Rattle.clnp.proofs.record.put_variable.Tie as tie
 use Rattle.octets.proofs.Emits.{nothing}
-use Rattle.cells.proofs.Rows.{flat-none}
-use Rattle.cotp.proofs.Values.{row-as}
+use Rattle.cells.proofs.Rows.{flat-none, row-as}
 use Rattle.clnp.proofs.Records.{no-options, options-as}
 
 options-at-requires : tie.Need-options-at-requires

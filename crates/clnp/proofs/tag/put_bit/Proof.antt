@@ -1,6 +1,7 @@
 use borrow.Author.Needs.{needs}
 use Rattle.clnp.proofs.tag.put_bit.Statement.{statement}
 use Rattle.clnp.proofs.tag.put_bit.Tie as tie
+use Rattle.octets.proofs.Picks.{pick-yes, pick-no}
 use Rattle.clnp.proofs.tag.put_bit.Reads as reads
 use Rattle.clnp.proofs.tag.put_bit.Lts as lts
 use Rattle.clnp.proofs.tag.bit_text.Reads as bit-text-reads
@@ -12,10 +13,8 @@ use Rattle.octets.specs.Text.{pick}
 use Rattle.octets.proofs.Emits.{nothing}
 use Rattle.codes.specs.Codes.{textIn, trafficTypes, atscClasses}
 use Rattle.cells.specs.Items.{none}
-use Rattle.cells.proofs.Rows.{flat-none}
+use Rattle.cells.proofs.Rows.{flat-none, row-as}
 use Rattle.fields.specs.Member.{optText}
-use Rattle.fields.proofs.Picks.{pick-yes, pick-no}
-use Rattle.cotp.proofs.Values.{row-as}
 
 -- src/tag.rt:65:8
 div-if1 : tie.Need-div-if1

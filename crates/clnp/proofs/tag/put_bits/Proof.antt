@@ -12,10 +12,9 @@ use Rattle.codes.specs.Codes.{Row, trafficTypes, atscClasses}
 use mathlib.Core.List.{List}
 use mathlib.Core.Bool.{false}
 use Rattle.cells.specs.Items.{_⊕_}
-use Rattle.cells.proofs.Rows.{around, then-row}
+use Rattle.cells.proofs.Rows.{around, then-row, row-as}
 use Rattle.clnp.specs.Label.{bitNames}
 use Rattle.clnp.proofs.Tags.{lowOf, highOf, bits-are}
-use Rattle.cotp.proofs.Values.{row-as}
 
 -- src/tag.rt:93:9
 open-list-requires : tie.Need-open-list-requires

@@ -1,6 +1,7 @@
 use borrow.Author.Needs.{needs}
 use Rattle.clnp.proofs.tag.put_by_name.Statement.{statement}
 use Rattle.clnp.proofs.tag.put_by_name.Tie as tie
+use Rattle.cells.proofs.Rows.{row-as}
 use Rattle.clnp.proofs.tag.put_by_name.Reads as reads
 use Rattle.clnp.proofs.tag.put_by_name.Lts as lts
 use Rattle.clnp.proofs.tag.put_classes.Reads as put-classes-reads
@@ -8,7 +9,6 @@ use Rattle.clnp.proofs.tag.put_octets.Reads as put-octets-reads
 use Rattle.clnp.proofs.tag.put_security.Reads as put-security-reads
 use Rattle.clnp.proofs.tag.put_subnet.Reads as put-subnet-reads
 use Rattle.clnp.proofs.tag.put_traffic.Reads as put-traffic-reads
-use Rattle.cotp.proofs.Values.{row-as}
 use Rattle.clnp.proofs.Tags.{as-named, seventh, unnamed}
 
 -- src/tag.rt:239:9

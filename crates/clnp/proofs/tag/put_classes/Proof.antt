@@ -11,9 +11,8 @@ use lib.ListN.{getD}
 use native.Mathlib.Omega.{arith}
 use Prim.Native.Nat.{_+_, _%_}
 use Rattle.cells.specs.Items.{Items, none, leaf, group, number, text, _⊕_}
-use Rattle.cells.proofs.Rows.{then-row}
+use Rattle.cells.proofs.Rows.{then-row, row-as}
 use Rattle.fields.specs.Member.{optText}
-use Rattle.cotp.proofs.Values.{row-as}
 use mathlib.Core.Bool.{false}
 use Rattle.names.specs.Numbers.{kKind, kClasses, tSupportedAtscClasses}
 use Rattle.codes.specs.Codes.{atscClasses}

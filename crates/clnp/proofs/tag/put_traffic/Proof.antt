@@ -13,9 +13,8 @@ use lib.ListN.{getD}
 use native.Mathlib.Omega.{arith}
 use Prim.Native.Nat.{_+_, _%_}
 use Rattle.cells.specs.Items.{Items, none, leaf, group, number, text, _⊕_}
-use Rattle.cells.proofs.Rows.{then-row}
+use Rattle.cells.proofs.Rows.{then-row, row-as}
 use Rattle.fields.specs.Member.{optText}
-use Rattle.cotp.proofs.Values.{row-as}
 use Rattle.names.specs.Numbers.{kKind, kTrafficType, kCategory, kRoutePolicy, tTrafficType}
 use Rattle.clnp.specs.Label.{trafficName, categoryName}
 use Rattle.clnp.proofs.Tags.{is-traffic, no-traffic}

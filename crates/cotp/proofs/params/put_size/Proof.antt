@@ -1,7 +1,8 @@
 use borrow.Author.Needs.{needs}
 use Rattle.cotp.proofs.params.put_size.Statement.{statement}
 use Rattle.cotp.proofs.params.put_size.Tie as tie
-use Rattle.cotp.proofs.Values.{row-as, is-size, other-size, no-size}
+use Rattle.cells.proofs.Rows.{row-as}
+use Rattle.cotp.proofs.Values.{is-size, other-size, no-size}
 
 -- src/params.rt:89:28
 shared-slice-read-size-of : tie.Need-shared-slice-read-size-of

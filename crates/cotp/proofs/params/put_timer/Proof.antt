@@ -1,7 +1,8 @@
 use borrow.Author.Needs.{needs}
 use Rattle.cotp.proofs.params.put_timer.Statement.{statement}
 use Rattle.cotp.proofs.params.put_timer.Tie as tie
-use Rattle.cotp.proofs.Values.{row-as, is-timer, no-timer}
+use Rattle.cells.proofs.Rows.{row-as}
+use Rattle.cotp.proofs.Values.{is-timer, no-timer}
 
 -- src/params.rt:148:24
 shared-slice-read-u32-of : tie.Need-shared-slice-read-u32-of

@@ -1,7 +1,8 @@
 use borrow.Author.Needs.{needs}
 use Rattle.cotp.proofs.params.put_two.Statement.{statement}
 use Rattle.cotp.proofs.params.put_two.Tie as tie
-use Rattle.cotp.proofs.Values.{row-as, is-two, no-two}
+use Rattle.cells.proofs.Rows.{row-as}
+use Rattle.cotp.proofs.Values.{is-two, no-two}
 
 -- src/params.rt:112:57
 shared-slice-read-u16-of : tie.Need-shared-slice-read-u16-of

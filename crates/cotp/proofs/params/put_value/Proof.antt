@@ -2,7 +2,8 @@ use borrow.Author.Needs.{needs}
 use Rattle.cotp.proofs.params.put_value.Statement.{statement}
 use Rattle.cotp.proofs.params.put_value.Tie as tie
 use mathlib.Core.Path.{sym, _∙_}
-use Rattle.cotp.proofs.Values.{row-as, no-number}
+use Rattle.cells.proofs.Rows.{row-as}
+use Rattle.cotp.proofs.Values.{no-number}
 
 -- src/params.rt:169:9
 put-size-requires : tie.Need-put-size-requires

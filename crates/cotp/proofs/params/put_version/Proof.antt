@@ -1,7 +1,8 @@
 use borrow.Author.Needs.{needs}
 use Rattle.cotp.proofs.params.put_version.Statement.{statement}
 use Rattle.cotp.proofs.params.put_version.Tie as tie
-use Rattle.cotp.proofs.Values.{row-as, is-version, no-version}
+use Rattle.cells.proofs.Rows.{row-as}
+use Rattle.cotp.proofs.Values.{is-version, no-version}
 use native.Mathlib.Omega.{arith}
 
 -- src/params.rt:130:50

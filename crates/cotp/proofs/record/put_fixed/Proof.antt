@@ -1,10 +1,10 @@
 use borrow.Author.Needs.{needs}
 use Rattle.cotp.proofs.record.put_fixed.Statement.{statement}
 use Rattle.cotp.proofs.record.put_fixed.Tie as tie
+use Rattle.cells.proofs.Rows.{row-as}
 use Rattle.cotp.proofs.Heads.{said}
 use Rattle.cotp.proofs.ByName.{at-cr, at-cc, at-dr, at-dc, at-er, at-dt, at-ed, at-ea, at-rest, members-at, members-rest}
 use Rattle.cotp.specs.Tpdu.{fixedMembers}
-use Rattle.cotp.proofs.Values.{row-as}
 use Rattle.names.specs.Numbers.{tCr, tCc, tDr, tDc, tDt, tEd, tEa, tEr}
 
 -- src/record.rt:135:15

@@ -2,6 +2,7 @@ use borrow.Author.Needs.{needs}
 use Rattle.cotp.proofs.record.put_user.Statement.{statement}
 use Rattle.cotp.proofs.record.put_user.Tie as tie
 use native.Mathlib.Omega.{arith}
+use Rattle.octets.proofs.Picks.{pick-yes}
 use Rattle.cotp.proofs.Heads.{said}
 use Rattle.cotp.proofs.ByName.{user-within}
 use Prim.Native.Nat.{_+_, _-_}
@@ -10,11 +11,9 @@ use lib.ListN.{length}
 use Rattle.names.specs.Numbers.{kUserDataLen, kTsduSegment}
 use Rattle.octets.proofs.Emits.{nothing}
 use Rattle.cells.specs.Items.{Items, none, leaf, number, _⊕_}
-use Rattle.cells.proofs.Rows.{then-row, flat-none}
+use Rattle.cells.proofs.Rows.{then-row, flat-none, row-as}
 use Rattle.fields.specs.Member.{optYes}
-use Rattle.fields.proofs.Picks.{pick-yes}
 use Rattle.cotp.specs.Tpdu.{partial}
-use Rattle.cotp.proofs.Values.{row-as}
 
 -- src/record.rt:201:8
 has-user-requires : tie.Need-has-user-requires

@@ -11,9 +11,8 @@ use Prim.Native.Nat.{ℕ}
 use Rattle.names.specs.Numbers.{kParams}
 use Rattle.octets.proofs.Emits.{nothing}
 use Rattle.cells.specs.Items.{inList}
-use Rattle.cells.proofs.Rows.{flat-none}
+use Rattle.cells.proofs.Rows.{flat-none, row-as}
 use Rattle.cotp.specs.Params.{paramItems}
-use Rattle.cotp.proofs.Values.{row-as}
 
 -- src/record.rt:160:14
 add-to : tie.Need-add-to

@@ -10,9 +10,8 @@ use lib.ListN.{length}
 use Rattle.octets.specs.Emit.{top}
 use Rattle.octets.proofs.Emits.{Toward, onward, finish, same-size}
 use Rattle.cells.specs.Items.{none, leaf, part, flat}
-use Rattle.cells.proofs.Rows.{flat-none, flat-⊕}
+use Rattle.cells.proofs.Rows.{flat-none, flat-⊕, row-as}
 use Rattle.esis.specs.Pdu.{addressOk, addressItems}
-use Rattle.esis.proofs.Options.{row-as}
 use Rattle.esis.proofs.Addresses.{off, on, behind, address, there, items-zero, items-past, items-bad, items-more}
 
 abbrev Inv-loop : tie.InvT-loop

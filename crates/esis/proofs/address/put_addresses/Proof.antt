@@ -4,10 +4,9 @@ use Rattle.esis.proofs.address.put_addresses.Tie as tie
 use mathlib.Core.Bool.{false}
 use Rattle.names.specs.Numbers.{kAddresses}
 use Rattle.octets.proofs.Emits.{nothing}
-use Rattle.cells.proofs.Rows.{around, flat-none}
+use Rattle.cells.proofs.Rows.{around, flat-none, row-as}
 use Rattle.esis.specs.Pdu.{addressItems}
 use Rattle.esis.proofs.Addresses.{off, on, none-zero, none-past, none-bad, some-address}
-use Rattle.esis.proofs.Options.{row-as}
 
 returns : tie.Need-returns
 returns c = let a = c .before .before .before .args in row-as 1 (none-zero (a .b .now) (a .n) (a .p) (c .if1 .taken)) (rw flat-none (nothing _ _ (search needs) (search needs)))

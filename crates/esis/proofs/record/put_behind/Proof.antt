@@ -2,8 +2,7 @@ use borrow.Author.Needs.{needs}
 use Rattle.esis.proofs.record.put_behind.Statement.{statement}
 use Rattle.esis.proofs.record.put_behind.Tie as tie
 use Rattle.octets.proofs.Emits.{nothing}
-use Rattle.cells.proofs.Rows.{flat-none}
-use Rattle.esis.proofs.Options.{row-as}
+use Rattle.cells.proofs.Rows.{flat-none, row-as}
 use Rattle.esis.proofs.Records.{member-esh, member-ish, member-none}
 
 shared-slice-read-if1 : tie.Need-shared-slice-read-if1

@@ -5,9 +5,8 @@ use Prim.Native.Nat.{ℕ}
 use mathlib.Core.Path.{ap, _∙_}
 use Rattle.names.specs.Numbers.{kAddresses}
 use Rattle.cells.specs.Items.{inList, _⊕_}
-use Rattle.cells.proofs.Rows.{then-row}
+use Rattle.cells.proofs.Rows.{then-row, row-as}
 use Rattle.esis.specs.Pdu.{addressItems, addressEnd, addressCount, optionMember}
-use Rattle.esis.proofs.Options.{row-as}
 use Rattle.esis.proofs.Records.{headOf, addressesOf}
 
 address-count-requires : tie.Need-address-count-requires

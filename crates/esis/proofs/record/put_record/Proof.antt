@@ -5,9 +5,8 @@ use mathlib.Core.Bool.{true}
 use lib.ListN.{length}
 use Rattle.names.specs.Numbers.{kProtocol, kPayloadLen, tEsIs}
 use Rattle.cells.specs.Items.{Items, none, leaf, number, text, _⊕_}
-use Rattle.cells.proofs.Rows.{around, then-row}
+use Rattle.cells.proofs.Rows.{around, then-row, row-as}
 use Rattle.esis.specs.Pdu.{headMembers, membersOf}
-use Rattle.esis.proofs.Options.{row-as}
 use Rattle.esis.proofs.Records.{short-members, long-members}
 
 open-object-requires : tie.Need-open-object-requires

@@ -4,9 +4,8 @@ use Rattle.idrp.proofs.attribute.put_attributes.Tie as tie
 use mathlib.Core.Bool.{false}
 use Rattle.octets.proofs.Emits.{nothing}
 use Rattle.names.specs.Numbers.{kPathAttributes}
-use Rattle.cells.proofs.Rows.{around, flat-none}
+use Rattle.cells.proofs.Rows.{around, flat-none, row-as}
 use Rattle.idrp.specs.Update.{attributeItems}
-use Rattle.idrp.proofs.Members.{row-as}
 use Rattle.idrp.proofs.Attributes.{no-attributes, some-attributes}
 
 two-at-requires : tie.Need-two-at-requires

@@ -4,8 +4,7 @@ use Rattle.idrp.proofs.attribute.put_value.Tie as tie
 use mathlib.Core.Path.{_∙_, sym}
 use native.Mathlib.Omega.{arith}
 use Rattle.octets.proofs.Emits.{nothing}
-use Rattle.cells.proofs.Rows.{flat-none}
-use Rattle.idrp.proofs.Members.{row-as}
+use Rattle.cells.proofs.Rows.{flat-none, row-as}
 use Rattle.idrp.proofs.Attributes.{number-one, is-number, is-octets, no-value}
 
 numbered-requires : tie.Need-numbered-requires

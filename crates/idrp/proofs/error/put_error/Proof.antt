@@ -8,9 +8,8 @@ use Rattle.names.specs.Ascii.{octets}
 use Rattle.names.specs.Numbers.{kErrorCode, kError, kErrorSubcode, kErrorSubcodeText}
 use Rattle.codes.specs.Codes.{textIn, idrpErrors, errorSubcodes}
 use Rattle.cells.specs.Items.{Items, none, leaf, number, text, _⊕_}
-use Rattle.cells.proofs.Rows.{then-row}
+use Rattle.cells.proofs.Rows.{then-row, row-as}
 use Rattle.fields.specs.Member.{optText}
-use Rattle.idrp.proofs.Members.{row-as}
 use Rattle.idrp.proofs.Records.{no-sub, with-sub, subOf}
 
 shared-slice-read-code : tie.Need-shared-slice-read-code

@@ -9,9 +9,8 @@ use lib.ListN.{getD, take, drop}
 use Rattle.octets.specs.Text.{pick}
 use Rattle.names.specs.Numbers.{kProtoType, kClnp, kPrefixes}
 use Rattle.cells.specs.Items.{Items, none, leaf, group, number, flag, _⊕_}
-use Rattle.cells.proofs.Rows.{around, then-row}
+use Rattle.cells.proofs.Rows.{around, then-row, row-as}
 use Rattle.idrp.specs.Update.{isClnp, prefixItems}
-use Rattle.idrp.proofs.Members.{row-as}
 use Rattle.idrp.proofs.Nlris.{addresses}
 
 open-object-requires : tie.Need-open-object-requires

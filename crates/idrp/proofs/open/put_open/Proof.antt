@@ -7,8 +7,7 @@ use lib.ListN.{getD}
 use Rattle.octets.specs.Read.{be16}
 use Rattle.names.specs.Numbers.{kVersion, kHoldTimeS, kMaxPduSize, kSrcRdi}
 use Rattle.cells.specs.Items.{Items, none, leaf, number, part, _⊕_}
-use Rattle.cells.proofs.Rows.{then-row}
-use Rattle.idrp.proofs.Members.{row-as}
+use Rattle.cells.proofs.Rows.{then-row, row-as}
 use Rattle.idrp.proofs.Records.{with-rdi, no-rdi}
 
 shared-slice-read-put-number : tie.Need-shared-slice-read-put-number

@@ -3,8 +3,7 @@ use Rattle.idrp.proofs.record.put_behind.Statement.{statement}
 use Rattle.idrp.proofs.record.put_behind.Tie as tie
 use lib.ListN.{getD}
 use Rattle.octets.proofs.Emits.{nothing}
-use Rattle.cells.proofs.Rows.{flat-none}
-use Rattle.idrp.proofs.Members.{row-as}
+use Rattle.cells.proofs.Rows.{flat-none, row-as}
 use Rattle.idrp.proofs.Records.{no-body, the-body}
 
 returns : tie.Need-returns

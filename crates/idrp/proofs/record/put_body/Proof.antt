@@ -2,8 +2,7 @@ use borrow.Author.Needs.{needs}
 use Rattle.idrp.proofs.record.put_body.Statement.{statement}
 use Rattle.idrp.proofs.record.put_body.Tie as tie
 use Rattle.octets.proofs.Emits.{nothing}
-use Rattle.cells.proofs.Rows.{flat-none}
-use Rattle.idrp.proofs.Members.{row-as}
+use Rattle.cells.proofs.Rows.{flat-none, row-as}
 use Rattle.idrp.proofs.Records.{as-typed, is-error, untyped}
 
 put-opening-requires : tie.Need-put-opening-requires

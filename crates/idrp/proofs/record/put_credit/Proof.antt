@@ -3,8 +3,7 @@ use Rattle.idrp.proofs.record.put_credit.Statement.{statement}
 use Rattle.idrp.proofs.record.put_credit.Tie as tie
 use native.Mathlib.Omega.{arith}
 use Rattle.octets.proofs.Emits.{nothing}
-use Rattle.cells.proofs.Rows.{then-row, flat-none}
-use Rattle.idrp.proofs.Members.{row-as}
+use Rattle.cells.proofs.Rows.{then-row, flat-none, row-as}
 use Rattle.idrp.proofs.Records.{no-credit, with-credit, offeredOf, availOf}
 
 returns : tie.Need-returns

@@ -4,9 +4,8 @@ use Rattle.idrp.proofs.record.put_members.Tie as tie
 use lib.ListN.{length}
 use Rattle.names.specs.Numbers.{kProtocol, kPayloadLen, tIdrp}
 use Rattle.cells.specs.Items.{Items, none, leaf, number, text, _⊕_}
-use Rattle.cells.proofs.Rows.{then-row}
+use Rattle.cells.proofs.Rows.{then-row, row-as}
 use Rattle.idrp.specs.Pdu.{headMembers}
-use Rattle.idrp.proofs.Members.{row-as}
 use Rattle.idrp.proofs.Records.{no-head, with-head}
 
 put-text-number-requires : tie.Need-put-text-number-requires

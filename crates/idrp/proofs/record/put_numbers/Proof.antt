@@ -2,8 +2,7 @@ use borrow.Author.Needs.{needs}
 use Rattle.idrp.proofs.record.put_numbers.Statement.{statement}
 use Rattle.idrp.proofs.record.put_numbers.Tie as tie
 use Rattle.octets.proofs.Emits.{nothing}
-use Rattle.cells.proofs.Rows.{then-row, flat-none}
-use Rattle.idrp.proofs.Members.{row-as}
+use Rattle.cells.proofs.Rows.{then-row, flat-none, row-as}
 use Rattle.idrp.proofs.Records.{no-numbers, with-numbers, sequenceOf, ackOf}
 
 returns : tie.Need-returns

@@ -4,9 +4,8 @@ use Rattle.idrp.proofs.record.put_opening.Tie as tie
 use mathlib.Core.Bool.{true}
 use Rattle.octets.proofs.Emits.{nothing}
 use Rattle.names.specs.Numbers.{kOpen}
-use Rattle.cells.proofs.Rows.{around, flat-none}
+use Rattle.cells.proofs.Rows.{around, flat-none, row-as}
 use Rattle.idrp.specs.Pdu.{openMembers}
-use Rattle.idrp.proofs.Members.{row-as}
 use Rattle.idrp.proofs.Records.{open-cut, open-whole}
 
 returns : tie.Need-returns

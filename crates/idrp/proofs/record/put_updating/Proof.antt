@@ -5,9 +5,8 @@ use mathlib.Core.Path.{_∙_, sym}
 use mathlib.Core.Bool.{true}
 use Rattle.octets.proofs.Emits.{nothing}
 use Rattle.names.specs.Numbers.{kUpdate}
-use Rattle.cells.proofs.Rows.{around, flat-none}
+use Rattle.cells.proofs.Rows.{around, flat-none, row-as}
 use Rattle.idrp.specs.Update.{updateMembers}
-use Rattle.idrp.proofs.Members.{row-as}
 use Rattle.idrp.proofs.Records.{update-whole, update-cut}
 
 update-readable-requires : tie.Need-update-readable-requires

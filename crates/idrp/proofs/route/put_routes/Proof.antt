@@ -4,9 +4,8 @@ use Rattle.idrp.proofs.route.put_routes.Tie as tie
 use mathlib.Core.Bool.{false}
 use Rattle.octets.proofs.Emits.{nothing}
 use Rattle.names.specs.Numbers.{kWithdrawnRoutes}
-use Rattle.cells.proofs.Rows.{around, flat-none}
+use Rattle.cells.proofs.Rows.{around, flat-none, row-as}
 use Rattle.idrp.specs.Update.{routeItems}
-use Rattle.idrp.proofs.Members.{row-as}
 use Rattle.idrp.proofs.Routes.{no-routes, some-routes}
 
 two-at-requires : tie.Need-two-at-requires

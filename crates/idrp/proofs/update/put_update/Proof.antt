@@ -4,9 +4,8 @@ use Rattle.idrp.proofs.update.put_update.Tie as tie
 use native.Mathlib.Omega.{arith}
 use Rattle.names.specs.Numbers.{kNlri}
 use Rattle.cells.specs.Items.{Items, inList, _⊕_}
-use Rattle.cells.proofs.Rows.{then-row}
+use Rattle.cells.proofs.Rows.{then-row, row-as}
 use Rattle.idrp.specs.Update.{routesMember, attributesMember, nlriItems}
-use Rattle.idrp.proofs.Members.{row-as}
 use Rattle.idrp.proofs.Updates.{there, nlri-at, members-are}
 
 attributes-at-requires : tie.Need-attributes-at-requires

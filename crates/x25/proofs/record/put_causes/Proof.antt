@@ -4,7 +4,8 @@ use Rattle.x25.proofs.record.put_causes.Tie as tie
 use Rattle.names.specs.Numbers.{kCause, kCauseText, kDiagnostic, kDiagnosticText}
 use Rattle.cells.specs.Items.{_⊕_}
 use Rattle.cells.proofs.Rows.{then-row}
-use Rattle.x25.specs.Packet.{optNumber, optText}
+use Rattle.fields.specs.Member.{optText}
+use Rattle.x25.specs.Packet.{optNumber}
 
 put-octet-requires : tie.Need-put-octet-requires
 put-octet-requires c κs = search needs
