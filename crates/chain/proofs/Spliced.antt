@@ -5,7 +5,7 @@ use mathlib.Core.Bool.{Bool, true, false}
 use mathlib.Core.List.{List, [], _∷_, _++_, append-assoc, append-nil}
 use native.Mathlib.Omega.{arith}
 use lib.ListN.{length, getD, take, drop, length-append, length-drop, length-take}
-use lib.Seq.{take-take, drop-drop, take-append-le, drop-append-le, drop-append-add, length-take-le, take-at, drop-at}
+use lib.Seq.{take-take, drop-drop, take-append-le, drop-append-le, drop-append-add, length-take-le, take-add, take-at, drop-at}
 use Rattle.octets.specs.Emit.{put}
 use Rattle.octets.proofs.Put.{put-is, length-put}
 use Rattle.chain.specs.Chain.{chainOk, homed, flat, Resized, Spliced}
@@ -134,6 +134,17 @@ module _ (home list home' list' bs : List ℕ) (b m a k n : ℕ) (ok : homed hom
       (spliced (flat bs (take m list)) (flat bs (r .new)) a k n d src (omega (arith, spelt-long home list bs b m ok fits room)) new-long hd hs)
 
 -- ---- by `insert`, and by `release`
+-- as many as before
+pub resized-same : (list : List ℕ) (m a k n : ℕ) → k ≡ n → a + k ≤ m → Resized list list m a k n
+resized-same list m a k n h ha =
+    let x : m + n - k ≡ (a + k) + (m - (a + k)) = omega arith in
+    let y : a + k ≡ a + min k n = omega arith in
+    record {
+      new = [];
+      long = omega arith;
+      entries = ap (λ (i : ℕ). take i list) x ∙ take-add (a + k) (m - (a + k)) list ∙ ap (λ (i : ℕ). take i list ++ take (m - (a + k)) (drop (a + k) list)) y;
+    }
+
 pub resized-more : (list list' : List ℕ) (m a k n : ℕ) → k ≤ n → a + k ≤ m → m + n - k ≤ length list'
     → take (m + (n - k)) list' ≡ take (a + k) list ++ (take (n - k) (drop (a + k) list') ++ take (m - (a + k)) (drop (a + k) list))
     → Resized list list' m a k n

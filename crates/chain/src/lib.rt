@@ -275,6 +275,9 @@ fn resize(list: &mut [u16], home: &mut [u16], b: usize, m: usize, a: usize, k: u
     ensures { λ _. ⌜ homed (now (home .exit)) (now (list .exit)) b (m + n - k) ≡ true ⌝ }
     ensures { λ _. ⌜ Resized (now (list .entry)) (now (list .exit)) m a k n ⌝ }
 {
+    if k == n {
+        return;
+    }
     if k <= n {
         insert(list, home, b, m, a + k, n - k)
     } else {
