@@ -21,7 +21,7 @@ fn least(a: usize, b: usize) -> usize
     if a < b { a } else { b }
 }
 
-// A line's octets behind the longest good line are not kept: it is bad with and without them.
+// What line has no room for was not kept: such a line is longer than any good one, and bad with and without it.
 fn answer(
     out: &mut [u8],
     at: usize,
