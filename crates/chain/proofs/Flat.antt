@@ -1,20 +1,21 @@
--- Laws of `flat`: a write into one block of a list in which none stands twice is a write into the octets that the list spells.
+-- Laws of `flat`: in a list in which none stands twice, a write into blocks that follow each other is a write into the octets
+-- that the list spells.
 use Prim.Native.Nat.{ℕ, zero, suc, _+_, _*_, _-_, _/_, _%_, _≤_, _<_}
-use mathlib.Core.Path.{_≡_, refl, sym, ap, _∙_}
+use mathlib.Core.Path.{_≡_, refl, sym, ap, ap₂, _∙_}
 use mathlib.Core.Logic.{⊎-elim}
 use mathlib.Core.Bool.{Bool, true, false, not, _&&_}
 use mathlib.Core.List.{List, [], _∷_, _++_, append-assoc}
-use native.Mathlib.Nat.{add-assoc}
-use native.Mathlib.Numerals.{add-one}
+use native.Mathlib.Nat.{eq-zero-or-pos}
 use native.Mathlib.Omega.{arith}
 use lib.Dec.{ltb, eqb}
-use lib.ListN.{length, getD, set, take, drop, length-append, length-take, length-drop, take-append-drop}
+use lib.ListN.{length, getD, take, drop, length-append, length-drop, take-append-drop}
 use lib.Seq.{split-at, take-at, drop-at, take-append-add, drop-append-add, take-append-le, drop-append-le, drop-drop, length-take-le, take-add, getD-take}
 use borrow.Author.Tests.{ltb-true, ltb-false, eqb-false, ne-eqb, not-true}
 use Rattle.octets.specs.Emit.{put}
 use Rattle.octets.proofs.Tests.{and-left, and-right}
 use Rattle.chain.specs.Chain.{block, flat, fresh, chainOk}
-use Rattle.octets.proofs.Put.{put-is, length-put, put-put}
+use Rattle.octets.proofs.Put.{put-is, put-nil, length-put, put-put}
+use Rattle.chain.proofs.Step.{Rises}
 
 -- ---- what the test says of one entry among the others
 
@@ -167,8 +168,8 @@ module _ (bs : List ℕ) (x k : ℕ) (s : List ℕ) (inside : 64 * x + 64 ≤ le
 pub below : (b : ℕ) (l : List ℕ) (i : ℕ) → chainOk b l ≡ true → i < length l → getD l i 0 < b
 below b l i ok hi = low b (take i l) (getD l i 0) (drop (suc i) l) (ap (chainOk b) (sym (split-at l i 0 hi)) ∙ ok)
 
--- the law that the writing loop cites: n octets at place 64 i + k of what the list spells
-pub flat-write : (b : ℕ) (bs l : List ℕ) (i k : ℕ) (s : List ℕ) → 64 * b ≤ length bs → chainOk b l ≡ true → i < length l → k + length s ≤ 64
+-- octets at place 64 i + k of what the list spells, in one block
+flat-write : (b : ℕ) (bs l : List ℕ) (i k : ℕ) (s : List ℕ) → 64 * b ≤ length bs → chainOk b l ≡ true → i < length l → k + length s ≤ 64
     → flat (put bs (64 * getD l i 0 + k) s) l ≡ put (flat bs l) (64 * i + k) s
 flat-write b bs l i k s room ok hi fit =
     let x = getD l i 0 in
@@ -194,35 +195,14 @@ flat-write b bs l i k s room ok hi fit =
     ∙ ap (λ (n : ℕ). put (flat bs pre ++ (block bs x ++ flat bs post)) n s) (sym at)
     ∙ ap (λ (f : List ℕ). put f (64 * i + k) s) (sym spelt)
 
--- a turn of the writing loop: n octets more of src
-pub write-more : (b : ℕ) (bs₀ bs bs′ l : List ℕ) (v : ℕ) (src : List ℕ) (done n : ℕ)
-    → 64 * b ≤ length bs₀ → 64 * b ≤ length bs → chainOk b l ≡ true
-    → v ≤ 64 * length l → (v + done) / 64 < length l → (v + done) % 64 + n ≤ 64 → done + n ≤ length src
-    → flat bs l ≡ put (flat bs₀ l) v (take done src)
-    → bs′ ≡ put bs (64 * getD l ((v + done) / 64) 0 + (v + done) % 64) (take n (drop done src))
-    → flat bs′ l ≡ put (flat bs₀ l) v (take (done + n) src)
-write-more b bs₀ bs bs′ l v src done n room₀ room ok hv hi hk hn inv e =
-    let i = (v + done) / 64 in
-    let k = (v + done) % 64 in
-    let ln : length (take n (drop done src)) ≡ n = length-take-le n (drop done src) (simp length-drop (omega arith)) in
-    let ld : length (take done src) ≡ done = length-take-le done src (omega arith) in
-    let lf : length (flat bs₀ l) ≡ 64 * length l = length-flat b bs₀ l room₀ ok in
-    let at : 64 * i + k ≡ v + length (take done src) = omega arith in
-    ap (λ (z : List ℕ). flat z l) e
-    ∙ flat-write b bs l i k (take n (drop done src)) room ok hi (omega arith)
-    ∙ ap (λ (f : List ℕ). put f (64 * i + k) (take n (drop done src))) inv
-    ∙ ap (λ (w : ℕ). put (put (flat bs₀ l) v (take done src)) w (take n (drop done src))) at
-    ∙ put-put (flat bs₀ l) v (take done src) (take n (drop done src))
-    ∙ ap (put (flat bs₀ l) v) (sym (take-add done n src))
-
--- ---- reading
+-- ---- reading one block
 
 middle-part : (a m z : List ℕ) (k n : ℕ) → k + n ≤ length m → take n (drop (length a + k) (a ++ (m ++ z))) ≡ take n (drop k m)
 middle-part a m z k n h =
     let room : n ≤ length (drop k m) = simp length-drop (omega arith) in
     ap (take n) (drop-append-add a (m ++ z) k ∙ drop-append-le k m z (omega arith)) ∙ take-append-le n (drop k m) z room
 
-pub flat-read : (b : ℕ) (bs l : List ℕ) (i k n : ℕ) → 64 * b ≤ length bs → chainOk b l ≡ true → i < length l → k + n ≤ 64
+flat-read : (b : ℕ) (bs l : List ℕ) (i k n : ℕ) → 64 * b ≤ length bs → chainOk b l ≡ true → i < length l → k + n ≤ 64
     → take n (drop (64 * getD l i 0 + k) bs) ≡ take n (drop (64 * i + k) (flat bs l))
 flat-read b bs l i k n room ok hi fit =
     let x = getD l i 0 in
@@ -249,14 +229,96 @@ flat-read b bs l i k n room ok hi fit =
     ∙ middle-part (flat bs pre) (block bs x) (flat bs post) k n (omega arith) in
     left ∙ sym right
 
+-- ---- blocks that follow each other
+
+run-later : (l : List ℕ) (i r : ℕ) → Rises l i (suc r) → Rises l (i + 1) r
+run-later l i r up t q =
+    let e : i + 1 + t ≡ i + (t + 1) = omega arith in
+    ap (λ (k : ℕ). getD l k 0) e ∙ up (t + 1) (omega (arith, q)) ∙ omega (arith, up 1 (omega (arith, q)))
+
+pub run-below : (b : ℕ) (l : List ℕ) (i r : ℕ) → chainOk b l ≡ true → 0 < r → i + r ≤ length l → Rises l i r → getD l i 0 + r ≤ b
+run-below b l i r ok h hi up = omega (arith, up (r - 1) (omega arith), below b l (i + (r - 1)) ok (omega arith))
+
+pub run-take : (l : List ℕ) (n i r : ℕ) → i + r ≤ n → Rises l i r → Rises (take n l) i r
+run-take l n i r h up t q = getD-take n l (i + t) 0 (omega (arith, q)) ∙ up t q ∙ ap (λ (x : ℕ). x + t) (sym (getD-take n l i 0 (omega (arith, q))))
+
+put-parts : (d : List ℕ) (at p q : ℕ) (s : List ℕ) → p ≤ length s → at + p ≡ q → put d at s ≡ put (put d at (take p s)) q (drop p s)
+put-parts d at p q s h e =
+    let lp : length (take p s) ≡ p = length-take-le p s h in
+    let w : at + length (take p s) ≡ q = omega arith in
+    ap (put d at) (sym (take-append-drop p s)) ∙ sym (put-put d at (take p s) (drop p s)) ∙ ap (λ (k : ℕ). put (put d at (take p s)) k (drop p s)) w
+
+take-parts : (d : List ℕ) (at p n q : ℕ) → p ≤ n → at + p ≡ q → take n (drop at d) ≡ take p (drop at d) ++ take (n - p) (drop q d)
+take-parts d at p n q h e =
+    let w : n ≡ p + (n - p) = omega arith in
+    ap (λ (k : ℕ). take k (drop at d)) w
+    ∙ take-add p (n - p) (drop at d)
+    ∙ ap (λ (y : List ℕ). take p (drop at d) ++ take (n - p) y) (drop-drop p at d ∙ ap (λ (k : ℕ). drop k d) e)
+
+-- the law that the writing loops cite: octets at place 64 i + k of what the list spells, in the r blocks from entry i on
+run-write : (b : ℕ) (l : List ℕ) → chainOk b l ≡ true → (r : ℕ) (bs : List ℕ) (i k : ℕ) (s : List ℕ) → 64 * b ≤ length bs → k ≤ 64
+    → i + r ≤ length l → Rises l i r → k + length s ≤ 64 * r → flat (put bs (64 * getD l i 0 + k) s) l ≡ put (flat bs l) (64 * i + k) s
+run-write b l ok zero bs i k [] room hk hi up fit = ap (λ (z : List ℕ). flat z l) (put-nil bs (64 * getD l i 0 + k)) ∙ sym (put-nil (flat bs l) (64 * i + k))
+run-write b l ok zero bs i k (x ∷ s) room hk hi up fit = absurd (omega arith)
+run-write b l ok (suc r) bs i k s room hk hi up fit =
+    ⊎-elim (λ (h : k + length s - 64 ≡ 0). flat-write b bs l i k s room ok (omega arith) (omega arith))
+    (λ (h : 0 < k + length s - 64).
+    let x₁ : getD l (i + 1) 0 ≡ getD l i 0 + 1 = up 1 (omega arith) in
+    let bs₁ : List ℕ = put bs (64 * getD l i 0 + k) (take (64 - k) s) in
+    let l₁ : length bs₁ ≡ length bs = length-put bs (64 * getD l i 0 + k) (take (64 - k) s) in
+    let ls : length (take (64 - k) s) ≡ 64 - k = length-take-le (64 - k) s (omega arith) in
+    ap (λ (z : List ℕ). flat z l) (put-parts bs (64 * getD l i 0 + k) (64 - k) (64 * getD l (i + 1) 0 + 0) s (omega arith) (omega arith))
+    ∙ run-write b l ok r bs₁ (i + 1) 0 (drop (64 - k) s) (omega arith) (omega arith) (omega arith) (run-later l i r up) (simp length-drop (omega arith))
+    ∙ ap (λ (f : List ℕ). put f (64 * (i + 1) + 0) (drop (64 - k) s)) (flat-write b bs l i k (take (64 - k) s) room ok (omega arith) (omega arith))
+    ∙ sym (put-parts (flat bs l) (64 * i + k) (64 - k) (64 * (i + 1) + 0) s (omega arith) (omega arith)))
+    (eq-zero-or-pos (k + length s - 64))
+
+-- and the reading loop
+run-read : (b : ℕ) (bs l : List ℕ) → 64 * b ≤ length bs → chainOk b l ≡ true → (r i k n : ℕ) → k ≤ 64 → i + r ≤ length l → Rises l i r → k + n ≤ 64 * r
+    → take n (drop (64 * getD l i 0 + k) bs) ≡ take n (drop (64 * i + k) (flat bs l))
+run-read b bs l room ok zero i k zero hk hi up fit = refl
+run-read b bs l room ok zero i k (suc n) hk hi up fit = absurd (omega arith)
+run-read b bs l room ok (suc r) i k n hk hi up fit =
+    ⊎-elim (λ (h : k + n - 64 ≡ 0). flat-read b bs l i k n room ok (omega arith) (omega arith))
+    (λ (h : 0 < k + n - 64).
+    let x₁ : getD l (i + 1) 0 ≡ getD l i 0 + 1 = up 1 (omega arith) in
+    take-parts bs (64 * getD l i 0 + k) (64 - k) n (64 * getD l (i + 1) 0 + 0) (omega arith) (omega arith)
+    ∙ ap₂ (λ (y z : List ℕ). y ++ z) (flat-read b bs l i k (64 - k) room ok (omega arith) (omega arith))
+    (run-read b bs l room ok r (i + 1) 0 (n - (64 - k)) (omega arith) (omega arith) (run-later l i r up) (omega arith))
+    ∙ sym (take-parts (flat bs l) (64 * i + k) (64 - k) n (64 * (i + 1) + 0) (omega arith) (omega arith)))
+    (eq-zero-or-pos (k + n - 64))
+
+-- ---- the loops
+
+-- a turn of the writing loop: n octets more of src
+pub write-more : (b : ℕ) (bs₀ bs bs′ l : List ℕ) (v : ℕ) (src : List ℕ) (done n r : ℕ)
+    → 64 * b ≤ length bs₀ → 64 * b ≤ length bs → chainOk b l ≡ true
+    → v ≤ 64 * length l → (v + done) / 64 + r ≤ length l → Rises l ((v + done) / 64) r → (v + done) % 64 + n ≤ 64 * r → done + n ≤ length src
+    → flat bs l ≡ put (flat bs₀ l) v (take done src)
+    → bs′ ≡ put bs (64 * getD l ((v + done) / 64) 0 + (v + done) % 64) (take n (drop done src))
+    → flat bs′ l ≡ put (flat bs₀ l) v (take (done + n) src)
+write-more b bs₀ bs bs′ l v src done n r room₀ room ok hv hi up hk hn inv e =
+    let i = (v + done) / 64 in
+    let k = (v + done) % 64 in
+    let ln : length (take n (drop done src)) ≡ n = length-take-le n (drop done src) (simp length-drop (omega arith)) in
+    let ld : length (take done src) ≡ done = length-take-le done src (omega arith) in
+    let lf : length (flat bs₀ l) ≡ 64 * length l = length-flat b bs₀ l room₀ ok in
+    let at : 64 * i + k ≡ v + length (take done src) = omega arith in
+    ap (λ (z : List ℕ). flat z l) e
+    ∙ run-write b l ok r bs i k (take n (drop done src)) room (omega arith) hi up (omega arith)
+    ∙ ap (λ (f : List ℕ). put f (64 * i + k) (take n (drop done src))) inv
+    ∙ ap (λ (w : ℕ). put (put (flat bs₀ l) v (take done src)) w (take n (drop done src))) at
+    ∙ put-put (flat bs₀ l) v (take done src) (take n (drop done src))
+    ∙ ap (put (flat bs₀ l) v) (sym (take-add done n src))
+
 -- a turn of the reading loop: m octets more
-pub read-more : (b : ℕ) (bs l : List ℕ) (v : ℕ) (out₀ out out′ : List ℕ) (at done m : ℕ)
+pub read-more : (b : ℕ) (bs l : List ℕ) (v : ℕ) (out₀ out out′ : List ℕ) (at done m r : ℕ)
     → 64 * b ≤ length bs → chainOk b l ≡ true
-    → v + done + m ≤ 64 * length l → (v + done) / 64 < length l → (v + done) % 64 + m ≤ 64 → at + done + m ≤ length out₀
+    → v + done + m ≤ 64 * length l → (v + done) / 64 + r ≤ length l → Rises l ((v + done) / 64) r → (v + done) % 64 + m ≤ 64 * r → at + done + m ≤ length out₀
     → out ≡ put out₀ at (take done (drop v (flat bs l)))
     → out′ ≡ put out (at + done) (take m (drop (64 * getD l ((v + done) / 64) 0 + (v + done) % 64) bs))
     → out′ ≡ put out₀ at (take (done + m) (drop v (flat bs l)))
-read-more b bs l v out₀ out out′ at done m room ok hv hi hk ho inv e =
+read-more b bs l v out₀ out out′ at done m r room ok hv hi up hk ho inv e =
     let i = (v + done) / 64 in
     let k = (v + done) % 64 in
     let f = flat bs l in
@@ -264,7 +326,7 @@ read-more b bs l v out₀ out out′ at done m room ok hv hi hk ho inv e =
     let ld : length (take done (drop v f)) ≡ done = length-take-le done (drop v f) (simp length-drop (omega arith)) in
     let where′ : 64 * i + k ≡ v + done = omega arith in
     let got : take m (drop (64 * getD l i 0 + k) bs) ≡ take m (drop done (drop v f)) =
-    flat-read b bs l i k m room ok hi hk
+    run-read b bs l room ok r i k m (omega arith) hi up hk
     ∙ ap (λ (w : ℕ). take m (drop w f)) where′
     ∙ ap (take m) (sym (drop-drop done v f)) in
     e

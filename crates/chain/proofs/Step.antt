@@ -1,16 +1,15 @@
 -- Entries that go up one by one, and so do their homes; and tests of stretches, joined.
-use Prim.Native.Nat.{ℕ, zero, suc, _+_, _-_, _≤_, _<_}
+use Prim.Native.Nat.{ℕ, zero, suc, _+_, _≤_, _<_}
 use mathlib.Core.Path.{_≡_, refl, sym, ap, _∙_}
 use mathlib.Core.Bool.{Bool, true, false, cond, _&&_}
-use mathlib.Core.Logic.{_⊎_, inl, inr}
 use mathlib.Core.List.{List}
 use native.Mathlib.Nat.{add-zero, add-suc}
 use native.Mathlib.Omega.{arith}
 use lib.Dec.{eqb, ltb}
-use lib.ListN.{length, getD}
+use lib.ListN.{getD}
 use borrow.Author.Tests.{eqb-true, eq-eqb, ltb-true, ltb-false, lt-ltb}
 use Rattle.octets.specs.Tests.{all}
-use Rattle.octets.proofs.Tests.{all-at, all-of, all-fails, no-true}
+use Rattle.octets.proofs.Tests.{all-at, all-of, no-true}
 use Rattle.chain.specs.Chain.{homeAt}
 
 -- entry i + s is block x + s, whose home is there
@@ -77,11 +76,11 @@ unfolding all
 all-same p q zero h = refl
 all-same p q (suc n) h = rw (all-same p q n (λ t k. h t (omega arith)), h n (omega arith))
 
--- of m numbers from i on, the first k pass: the others decide
-pub rest-join : (f : ℕ → Bool) (i k m : ℕ) → k ≤ m → all (λ t. f (i + t)) k ≡ true → all (λ t. f (i + k + t)) (m - k) ≡ all (λ t. f (i + t)) m
-rest-join f i k m h e =
-    all-same (λ t. f (i + k + t)) (λ t. f (i + (k + t))) (m - k) (λ t q. ap f (omega arith))
-    ∙ all-join (λ t. f (i + t)) k (m - k) m e (omega arith)
+-- of m numbers from i on, the first k pass: the other n decide
+pub rest-join : (f : ℕ → Bool) (i k n m : ℕ) → k + n ≡ m → all (λ t. f (i + t)) k ≡ true → all (λ t. f (i + k + t)) n ≡ all (λ t. f (i + t)) m
+rest-join f i k n m h e =
+    all-same (λ t. f (i + k + t)) (λ t. f (i + (k + t))) n (λ t q. ap f (omega arith))
+    ∙ all-join (λ t. f (i + t)) k n m e h
 
 -- where the first k fail, so do m
 pub all-cut : (p : ℕ → Bool) (k m : ℕ) → k ≤ m → all p k ≡ false → all p m ≡ false
@@ -90,3 +89,17 @@ all-cut p k m h e = go (all p m) refl
     go : (b : Bool) → all p m ≡ b → all p m ≡ false
     go true t = no-true (sym e ∙ all-of p k (λ i q. all-at p i m t (omega arith)))
     go false t = t
+
+-- the r entries from i on are blocks that follow each other
+abbrev pub Rises : List ℕ → ℕ → ℕ → Type 0
+Rises list i r = (t : ℕ) → t < r → getD list (i + t) 0 ≡ getD list i 0 + t
+
+pub rises-one : (list : List ℕ) (i : ℕ) → Rises list i 1
+rises-one list i t q = let e : t ≡ 0 = omega (arith, q) in rw (e, add-zero i, add-zero (getD list i 0))
+
+pub rises-more : (list : List ℕ) (i r : ℕ) → Rises list i r → getD list (i + r) 0 ≡ getD list i 0 + r → Rises list i (r + 1)
+rises-more list i r so-far next t q = go (ltb t r) refl
+  where
+    go : (b : Bool) → ltb t r ≡ b → getD list (i + t) 0 ≡ getD list i 0 + t
+    go true e = so-far t (ltb-true t r e)
+    go false e = let k : t ≡ r = omega (arith, q, ltb-false t r e) in rw k next

@@ -72,8 +72,10 @@ fn stretch_ok(list: &[u16], home: &[u16], b: usize, i: usize, m: usize) -> bool
 {
     let x = list[i] as usize;
     if x + m <= b {
-        if in_step(list, home, i, x, m) {
-            return true;
+        if list[i + m - 1] as usize == x + m - 1 {
+            if in_step(list, home, i, x, m) {
+                return true;
+            }
         }
     }
     each_ok(list, home, b, i, m)
@@ -98,6 +100,9 @@ pub fn homed_ok(list: &[u16], home: &[u16], b: usize, n: usize) -> bool
     requires { ⌜ (n ≤ length (now list)) × (b ≤ length (now home)) × (n ≤ b) × (b ≤ 1024) ⌝ }
     ensures { λ r. ⌜ r ≡ homed (now (home .entry)) (now (list .entry)) b n ⌝ }
 {
+    if n < 32 {
+        return each_ok(list, home, b, 0, n);
+    }
     let mut i: usize = 0;
     while i + 64 <= n {
         if !stretch_ok(list, home, b, i, 64) {
@@ -220,6 +225,22 @@ pub fn release(list: &mut [u16], home: &mut [u16], b: usize, n: usize, p: usize,
     }
 }
 
+// How many blocks follow each other from entry i on, counted up to m.
+fn run(list: &[u16], i: usize, m: usize) -> usize
+    requires { ⌜ (0 < m) × (i + m ≤ length (now list)) ⌝ }
+    ensures { λ r. ⌜ (1 ≤ r) × (r ≤ m) × ((t : ℕ) → t < r → getD (now (list .entry)) (i + t) 0 ≡ getD (now (list .entry)) i 0 + t) ⌝ }
+{
+    let x = list[i] as usize;
+    let mut t: usize = 1;
+    while t < m {
+        if list[i + t] as usize != x + t {
+            return t;
+        }
+        t += 1;
+    }
+    t
+}
+
 // The octets of src, written at place v of the octets that the first n entries spell.
 pub fn write_at(list: &[u16], blocks: &mut [u8], b: usize, n: usize, v: usize, src: &[u8])
     requires { ⌜ (n ≤ b) × (n ≤ length (now list)) × (chainOk b (take n (now list)) ≡ true) × (64 * b ≤ length (now blocks)) × (v + length (now src) ≤ 64 * n) ⌝ }
@@ -231,7 +252,7 @@ pub fn write_at(list: &[u16], blocks: &mut [u8], b: usize, n: usize, v: usize, s
         let i = at / 64;
         let k = at % 64;
         let x = list[i] as usize;
-        let mut part = 64 - k;
+        let mut part = 64 * run(list, i, (k + (src.len() - done) - 1) / 64 + 1) - k;
         if src.len() - done < part {
             part = src.len() - done;
         }
@@ -260,7 +281,7 @@ pub fn read_at(
         let i = w / 64;
         let k = w % 64;
         let x = list[i] as usize;
-        let mut part = 64 - k;
+        let mut part = 64 * run(list, i, (k + (m - done) - 1) / 64 + 1) - k;
         if m - done < part {
             part = m - done;
         }
@@ -330,7 +351,7 @@ fn zero_at(list: &[u16], blocks: &mut [u8], b: usize, n: usize, v: usize, m: usi
         let i = at / 64;
         let k = at % 64;
         let x = list[i] as usize;
-        let mut part = 64 - k;
+        let mut part = 64 * run(list, i, (k + (m - done) - 1) / 64 + 1) - k;
         if m - done < part {
             part = m - done;
         }

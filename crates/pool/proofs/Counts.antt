@@ -22,7 +22,7 @@ use Rattle.pool.proofs.Good.{Good}
 use Rattle.pool.proofs.Near.{own, link-inside}
 use Rattle.pool.proofs.Expired.{link-view}
 
-inUse-last : (xs : List Unit) (u : Unit) → inUse (xs ++ (u ∷ [])) ≡ inUse xs + costOf u
+pub inUse-last : (xs : List Unit) (u : Unit) → inUse (xs ++ (u ∷ [])) ≡ inUse xs + costOf u
 unfolding inUse
 inUse-last [] u = omega arith
 inUse-last (x ∷ xs) u = omega (arith, inUse-last xs u)

@@ -1,19 +1,39 @@
 -- What the soundness test says.
-use Prim.Native.Nat.{ℕ, _+_, _*_, _-_, _≤_, _<_}
-use mathlib.Core.Path.{_≡_, refl, sym, ap, _∙_}
-use mathlib.Core.Bool.{Bool, true, false, _&&_}
+use Prim.Native.Nat.{ℕ, _*_, _≤_, _<_}
+use mathlib.Core.Path.{_≡_, refl, ap, _∙_}
+use mathlib.Core.Bool.{Bool, true, false, cond}
 use mathlib.Core.List.{List}
 use native.Mathlib.Omega.{arith}
 use lib.Dec.{leb}
 use lib.Ieee.{Float}
-use lib.ListN.{length, getD, take}
+use lib.ListN.{length}
 use borrow.Author.Tests.{leb-true, le-leb, lt-leb}
-use Rattle.chain.specs.Chain.{homed, chainOk}
+use Rattle.chain.specs.Chain.{homed}
 use Rattle.octets.proofs.Tests.{and-left, and-right}
-use Rattle.chain.proofs.Home.{homed-chain}
-use Rattle.tables.specs.Tables.{links, blocksIn, usedOf, settingsOk, tablesOk}
-use Rattle.tables.proofs.Laws.{Tables, tables, tables-of, Settings, settings, used-fits}
+use Rattle.tables.specs.Tables.{links, blocksIn, usedOf, tablesOk}
+use Rattle.tables.proofs.Laws.{Tables, tables, tables-of, settings, used-fits}
 use Rattle.pool.specs.View.{sound}
+
+-- what the test of the tables tells by its number: no sound store has as many blocks in use as the failure says
+module _ (w : List ℕ) (m : ℕ) (is : m ≡ cond (tablesOk w) (usedOf w (links w)) 65535) where
+  pub told-bad : m ≡ 65535 → tablesOk w ≡ false
+  told-bad e = go (tablesOk w) refl is
+    where
+      go : (t : Bool) → tablesOk w ≡ t → m ≡ cond t (usedOf w (links w)) 65535 → tablesOk w ≡ false
+      go true f i =
+          let g = tables w f in
+          absurd (omega (arith, i, used-fits w g, settings w (g .set) .few-blocks))
+      go false f i = f
+
+  pub told-good : (m ≡ 65535 → ⊥) → tablesOk w ≡ true
+  told-good n = go (tablesOk w) refl is
+    where
+      go : (t : Bool) → tablesOk w ≡ t → m ≡ cond t (usedOf w (links w)) 65535 → tablesOk w ≡ true
+      go true f i = f
+      go false f i = absurd (n i)
+
+  pub told-used : tablesOk w ≡ true → m ≡ usedOf w (links w)
+  told-used f = is ∙ ap (λ (t : Bool). cond t (usedOf w (links w)) 65535) f
 
 pub record Good (w : List ℕ) (t : List Float) (list home bs : List ℕ) : Type 0 where
   pub tab : Tables w

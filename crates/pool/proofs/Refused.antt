@@ -1,12 +1,13 @@
 -- The answers of `room`, each way, and what 2 gives.
 use Prim.Native.Nat.{ℕ, _+_, _*_, _-_, _≤_, _<_}
-use mathlib.Core.Path.{_≡_, refl, sym, _∙_}
+use mathlib.Core.Path.{_≡_, refl}
 use mathlib.Core.Bool.{Bool, true, false, cond}
 use mathlib.Core.List.{List}
 use native.Mathlib.Omega.{arith}
 use lib.Dec.{ltb}
 use borrow.Author.Tests.{lt-ltb, le-ltb, ltb-false}
 use Rattle.tables.specs.Tables.{links, blocksIn, reserve, cap, count, units, excessOf}
+use Rattle.tables.proofs.Laws.{Tables, Link}
 use Rattle.pool.specs.View.{refusal, Room}
 
 module _ (w : List ℕ) (l u k n : ℕ) where
@@ -37,6 +38,14 @@ module _ (w : List ℕ) (l u k n : ℕ) where
       pub says-2 : asked ≤ there → refusal w l u k n ≡ 2
       unfolding refusal
       says-2 h = rw (le-ltb 8 (units w l + u) few, le-ltb (cap w) would own, le-ltb there asked h)
+
+      -- a link within its reserve takes nothing of the common rest
+      pub within-2 : Tables w → would ≤ reserve w → refusal w l u k n ≡ 2
+      within-2 g h = says-2 (omega (arith, g .rest))
+
+    -- a link that gets no more keeps its shares
+    pub less-2 : Tables w → Link w l → k ≤ count w l → n ≤ k → refusal w l u k n ≡ 2
+    less-2 g o hk h = says-2 (omega (arith, o .within)) (omega (arith, g .rest))
 
   -- three tests were passed where the answer is 2
   passed : (a b c : Bool) → _≡_ {A = ℕ} (cond a 11 (cond b 12 (cond c 13 2))) 2 → (a ≡ false) × (b ≡ false) × (c ≡ false)

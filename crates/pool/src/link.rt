@@ -113,12 +113,20 @@ pub fn room(words: &[u64], l: usize, u: u64, k: u64, n: u64) -> u64
     if 8 < words[24 + l] + u {
         return 11;
     }
+    // What is there already meets the shares.
+    if n <= k {
+        return 2;
+    }
     let before = words[8 + l];
     let after = before + n - k;
     if words[4] < after {
         return 12;
     }
     let r = words[3];
+    // So does what is within the reserve.
+    if after <= r {
+        return 2;
+    }
     let e = over_of(recounted(ledger_of(words), l, after), r);
     if words[2] - words[1] * r < e {
         return 13;

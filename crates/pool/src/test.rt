@@ -7,7 +7,8 @@ ghost use Rattle.pool.specs.Kinds.{soundOf, anyUnit};
 fn base_ok(words: &[u64], times: &[f64], list: &[u16], home: &[u16], blocks: &[u8]) -> bool
     ensures { λ r. ⌜ r ≡ sound (now (words .entry)) (now (times .entry)) (now (list .entry)) (now (home .entry)) (now (blocks .entry)) ⌝ }
 {
-    if !tables::tables_ok(words) {
+    let m = tables::checked_used(words);
+    if m == 65535 {
         return false;
     }
     if times.len() < 128 {
@@ -23,7 +24,6 @@ fn base_ok(words: &[u64], times: &[f64], list: &[u16], home: &[u16], blocks: &[u
     if blocks.len() < 64 * b {
         return false;
     }
-    let m = tables::ledger::all_used(words);
     chain::homed_ok(list, home, b, m)
 }
 

@@ -11,7 +11,7 @@ use crate::place::place_at;
 use crate::place::set_place;
 use tables::ledger::ledger_of;
 use tables::ledger::recounted;
-use tables::ledger::set_ledger;
+use tables::ledger::set_count;
 
 // The block from which on place j of link l stands.
 pub fn start_of(words: &[u64], l: usize, j: usize) -> usize
@@ -42,7 +42,8 @@ fn set_part(words: &mut [u64], l: usize, j: usize, part: usize, x: u64, n: u64)
     let c = words[8 + l];
     words[at + (7 + part)] = x;
     words[at + (9 + part)] = n;
-    set_ledger(words, recounted(ledger_of(words), l, c + n - k));
+    let g = recounted(ledger_of(words), l, c + n - k);
+    set_count(words, g, l);
 }
 
 // A part of unit j of link l from its octet d on becomes src.
@@ -142,7 +143,8 @@ fn take_place(words: &mut [u64], times: &mut [f64], l: usize, j: usize, k: u64)
     shift::down64(words, 40 + 12 * (8 * l + j), 12, 40 + 12 * (8 * l + u));
     shift::downf(times, 8 * l + j, 1, 8 * l + u);
     words[24 + l] = (u - 1) as u64;
-    set_ledger(words, recounted(ledger_of(words), l, c - k));
+    let g = recounted(ledger_of(words), l, c - k);
+    set_count(words, g, l);
 }
 
 // Unit j of link l is taken out.

@@ -1,17 +1,14 @@
 -- The ledger's counts against those of the words.
 use Prim.Native.Nat.{ℕ, _+_, _-_, _≤_, _<_}
 use mathlib.Core.Path.{_≡_, refl, sym, ap, _∙_}
-use mathlib.Core.Logic.{inl, inr}
 use mathlib.Core.Bool.{Bool, true, false}
 use mathlib.Core.List.{List}
 use native.Mathlib.Omega.{arith}
-use lib.Dec.{ltb, eqb}
-use lib.ListN.{length, getD, set, drop, length-drop, length-set}
-use lib.Seq.{getD-take, getD-drop, getD-set-same, getD-set-other, length-take-le, ext-getD}
-use borrow.Author.Tests.{eqb-true, eqb-false, ltb-true, ltb-false}
-use Rattle.octets.specs.Emit.{put}
+use lib.Dec.{eqb}
+use lib.ListN.{length, getD, set, drop, length-drop}
+use lib.Seq.{getD-take, getD-drop, getD-set-same, getD-set-other, length-take-le}
+use borrow.Author.Tests.{eqb-true, eqb-false}
 use Rattle.octets.specs.Tests.{all}
-use Rattle.octets.proofs.Put.{length-put, put-same, put-other}
 use Rattle.octets.proofs.Tests.{all-at, and-right}
 use Rattle.tables.specs.Tables.{links, reserve, count, units, settingsOk, idle, linkAt, usedOf, excessOf, counts, total, over}
 use Rattle.tables.proofs.Laws.{settings, idle-is, counts-low}
@@ -60,41 +57,8 @@ module _ (w : List ℕ) (set-up : settingsOk w ≡ true) (each : all (linkAt w) 
       go true e = let z : i ≡ l = eqb-true i l e in rw z (omega (arith, low, getD-set-same (counts w) l x 0 (omega (arith, h, length-counts w long))))
       go false e = omega (arith, getD-set-other (counts w) l i x 0 (eqb-false i l e), ledger-low w set-up each i q)
 
--- a ledger with one count changed, stored
-pub put-count : (w : List ℕ) (l x : ℕ) → l < 16 → 24 ≤ length w → put w 8 (set (counts w) l x) ≡ set w (8 + l) x
-put-count w l x h long =
-    ext-getD 0 (put w 8 (set (counts w) l x)) (set w (8 + l) x) (length-put w 8 _ ∙ sym (length-set w (8 + l) x)) (λ i q. at i)
-  where
-    many : length (set (counts w) l x) ≡ 16
-    many = length-set (counts w) l x ∙ length-counts w long
-
-    inside : (k : ℕ) → k < 16 → (t : Bool) → eqb k l ≡ t → getD (set (counts w) l x) k 0 ≡ getD (set w (8 + l) x) (8 + k) 0
-    inside k q true e =
-        let z : k ≡ l = eqb-true k l e in
-        rw z (getD-set-same (counts w) l x 0 (omega (arith, length-counts w long)) ∙ sym (getD-set-same w (8 + l) x 0 (omega arith)))
-    inside k q false e =
-        getD-set-other (counts w) l k x 0 (eqb-false k l e) ∙ count-at w k q ∙ sym (getD-set-other w (8 + l) (8 + k) x 0 (λ z. eqb-false k l e (omega arith)))
-
-    at : (i : ℕ) → getD (put w 8 (set (counts w) l x)) i 0 ≡ getD (set w (8 + l) x) i 0
-    at i = go (ltb i 8) (ltb i 24) refl refl
-      where
-        go : (s t : Bool) → ltb i 8 ≡ s → ltb i 24 ≡ t → getD (put w 8 (set (counts w) l x)) i 0 ≡ getD (set w (8 + l) x) i 0
-        go true t e f =
-            let k = ltb-true i 8 e in
-            put-other (set (counts w) l x) w 8 i 0 (inl k) ∙ sym (getD-set-other w (8 + l) i x 0 (λ z. omega (arith, z)))
-        go false false e f =
-            let k = ltb-false i 24 f in
-            put-other (set (counts w) l x) w 8 i 0 (inr (omega (arith, many, k))) ∙ sym (getD-set-other w (8 + l) i x 0 (λ z. omega (arith, z, k)))
-        go false true e f =
-            let a = ltb-false i 8 e in
-            let b = ltb-true i 24 f in
-            let q : i ≡ 8 + (i - 8) = omega (arith, a) in
-            let p : i - 8 < 16 = omega (arith, b) in
-            ap (λ (y : ℕ). getD (put w 8 (set (counts w) l x)) y 0) q
-            ∙ put-same (set (counts w) l x) w 8 (i - 8) 0 (omega (arith, many)) (omega (arith, many))
-            ∙ inside (i - 8) p (eqb (i - 8) l) refl
-            ∙ ap (λ (y : ℕ). getD (set w (8 + l) x) y 0) (sym q)
-
--- the same by what the functions ensure: the ledger g of w, then h of it, then w' with h stored
-pub stored : (w w' g h : List ℕ) (l x : ℕ) → l < 16 → 24 ≤ length w → g ≡ counts w → h ≡ set g l x → w' ≡ put w 8 h → w' ≡ set w (8 + l) x
-stored w w' g h l x low long a b c = c ∙ ap (put w 8) (b ∙ ap (λ (q : List ℕ). set q l x) a) ∙ put-count w l x low long
+-- a ledger with one count changed, stored, by what the functions ensure: the ledger g of w, then h of it, then w' with h's count
+pub stored : (w w' g h : List ℕ) (l x : ℕ) → g ≡ counts w → h ≡ set g l x → w' ≡ set w (8 + l) (getD h l 0) → l < 16 → 24 ≤ length w → w' ≡ set w (8 + l) x
+stored w w' g h l x a b c low long =
+    let n : length g ≡ 16 = ap length a ∙ length-counts w long in
+    c ∙ ap (set w (8 + l)) (ap (λ (q : List ℕ). getD q l 0) b ∙ getD-set-same g l x 0 (omega arith))

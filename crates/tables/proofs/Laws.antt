@@ -7,7 +7,7 @@ use native.Mathlib.Numerals.{add-one}
 use native.Mathlib.Nat.{mul-le-mul-left, suc-mul}
 use native.Mathlib.Omega.{arith}
 use lib.Dec.{ltb, leb, eqb}
-use lib.ListN.{length}
+use lib.ListN.{length, getD}
 use borrow.Author.Tests.{leb-true, le-leb, lt-leb, ltb-true, ltb-false, lt-ltb, le-ltb, eqb-true, eq-eqb, ne-eqb}
 use Rattle.octets.specs.Tests.{all}
 use Rattle.octets.proofs.Tests.{all-at, all-of, all-fails, and-left, and-right, and-false}
@@ -170,9 +170,33 @@ module _ (w : List ℕ) (l : ℕ) where
   unfolding idle
   idle-count e = rw (ne-eqb (count w l) 0 e) (and-false (eqb (units w l) 0))
 
-  pub idle-of : units w l ≡ 0 → count w l ≡ 0 → idle w l ≡ true
+  pub idle-last : units w l ≡ 0 → idle w l ≡ eqb (count w l) 0
   unfolding idle
-  idle-of e f = rw (eq-eqb (units w l) 0 e, eq-eqb (count w l) 0 f)
+  idle-last e = rw (eq-eqb (units w l) 0 e)
+
+  pub idle-of : units w l ≡ 0 → count w l ≡ 0 → idle w l ≡ true
+  idle-of e f = idle-last e ∙ eq-eqb (count w l) 0 f
+
+-- the i-th of four from l on, by the words that are read
+module _ (w : List ℕ) (l i : ℕ) where
+  at : (j : ℕ) → getD w (j + (l + i)) 0 ≡ getD w (j + i + l) 0
+  at j = ap (λ (x : ℕ). getD w x 0) (omega arith)
+
+  pub four-units : i < 4 → (getD w (24 + i + l) 0 ≡ 0 → ⊥) → all (λ i. idle w (l + i)) 4 ≡ false
+  four-units h e = all-fails (λ i. idle w (l + i)) i 4 h (idle-units w (l + i) (λ z. e (sym (at 24) ∙ z)))
+
+  pub four-count : i < 4 → (getD w (8 + i + l) 0 ≡ 0 → ⊥) → all (λ i. idle w (l + i)) 4 ≡ false
+  four-count h e = all-fails (λ i. idle w (l + i)) i 4 h (idle-count w (l + i) (λ z. e (sym (at 8) ∙ z)))
+
+  pub one-last : getD w (24 + i + l) 0 ≡ 0 → idle w (l + i) ≡ eqb (getD w (8 + i + l) 0) 0
+  one-last e = idle-last w (l + i) (at 24 ∙ e) ∙ ap (λ (x : ℕ). eqb x 0) (at 8)
+
+  pub one-idle : getD w (24 + i + l) 0 ≡ 0 → getD w (8 + i + l) 0 ≡ 0 → idle w (l + i) ≡ true
+  one-idle e f = one-last e ∙ eq-eqb (getD w (8 + i + l) 0) 0 f
+
+pub all-last : (p : ℕ → Bool) → p 0 ≡ true → p 1 ≡ true → p 2 ≡ true → all p 4 ≡ p 3
+unfolding all
+all-last p a b c = rw (a, b, c)
 
 -- all sixteen: the links, and nothing past them
 pub links-fail : (w : List ℕ) (l : ℕ) → links w ≤ 16 → l < links w → linkOk w l ≡ false → all (linkAt w) 16 ≡ false
@@ -215,6 +239,12 @@ module _ (w : List ℕ) where
       pub common : all (linkAt w) 16 ≡ true → tablesOk w ≡ leb (excessOf w (links w)) (blocksIn w - links w * reserve w)
       unfolding tablesOk
       common e = rw (le-leb 1576 (length w) long, set, e)
+
+pub unsound : (w : List ℕ) → tablesOk w ≡ false → 65535 ≡ cond (tablesOk w) (usedOf w (links w)) 65535
+unsound w e = rw e
+
+pub sound : (w : List ℕ) → tablesOk w ≡ true → usedOf w (links w) ≡ cond (tablesOk w) (usedOf w (links w)) 65535
+sound w e = rw e
 
 pub record Tables (w : List ℕ) : Type 0 where
   pub long : 1576 ≤ length w

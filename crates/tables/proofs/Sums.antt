@@ -1,17 +1,37 @@
 -- Laws of `sum` and `all` over functions that agree.
-use Prim.Native.Nat.{ℕ, zero, suc, _+_, _≤_, _<_}
-use mathlib.Core.Path.{_≡_, refl, sym}
+use Prim.Native.Nat.{ℕ, zero, suc, _+_, _-_, _≤_, _<_}
+use mathlib.Core.Path.{_≡_, refl, sym, ap, _∙_}
 use mathlib.Core.Bool.{Bool, true, false}
 use native.Mathlib.Omega.{arith}
-use lib.Dec.{eqb}
-use borrow.Author.Tests.{eqb-true, eqb-false}
+use lib.Dec.{eqb, ltb}
+use borrow.Author.Tests.{eqb-true, eqb-false, ltb-true, ltb-false}
 use Rattle.octets.specs.Tests.{all}
+use Rattle.octets.proofs.Tests.{no-true, all-at, all-of}
 use Rattle.tables.specs.Tables.{sum}
 
 pub all-same : (p q : ℕ → Bool) (n : ℕ) → ((i : ℕ) → i < n → p i ≡ q i) → all p n ≡ all q n
 unfolding all
 all-same p q zero h = refl
 all-same p q (suc n) h = rw (all-same p q n (λ i k. h i (omega arith)), h n (omega arith))
+
+-- one after another: q is p from m on
+module _ (p q : ℕ → Bool) (m k : ℕ) (h : (i : ℕ) → i < k → q i ≡ p (m + i)) where
+  pub all-join : all p m ≡ true → all q k ≡ true → all p (m + k) ≡ true
+  all-join a b = all-of p (m + k) (λ i l. go i l (ltb i m) refl)
+    where
+      go : (i : ℕ) → i < m + k → (t : Bool) → ltb i m ≡ t → p i ≡ true
+      go i l true e = all-at p i m a (ltb-true i m e)
+      go i l false e =
+          let n : m ≤ i = omega (arith, ltb-false i m e) in
+          let z : i ≡ m + (i - m) = omega arith in
+          ap p z ∙ sym (h (i - m) (omega arith)) ∙ all-at q (i - m) k b (omega arith)
+
+  pub all-part : (n : ℕ) → m + k ≤ n → all q k ≡ false → all p n ≡ false
+  all-part n l f = go (all p n) refl
+    where
+      go : (t : Bool) → all p n ≡ t → all p n ≡ false
+      go false e = e
+      go true e = no-true (sym f ∙ all-of q k (λ i r. h i r ∙ all-at p (m + i) n e (omega arith)))
 
 pub sum-same : (f g : ℕ → ℕ) (n : ℕ) → ((i : ℕ) → i < n → f i ≡ g i) → sum f n ≡ sum g n
 unfolding sum

@@ -3,7 +3,6 @@ ghost use mathlib.Core.Path.{_≡_};
 ghost use mathlib.Core.Bool.{true};
 ghost use Prim.Native.Nat.{ℕ, _+_, _-_, _≤_, _<_};
 ghost use lib.ListN.{length, getD, set};
-ghost use Rattle.octets.specs.Emit.{put};
 ghost use Rattle.octets.specs.Tests.{all};
 ghost use Rattle.tables.specs.Tables.{links, settingsOk, linkAt, usedOf, counts, total, over};
 
@@ -35,16 +34,12 @@ pub fn recounted(g: Ledger, l: usize, n: u64) -> Ledger
     m
 }
 
-// The words hold this ledger.
-pub fn set_ledger(words: &mut [u64], g: Ledger)
-    requires { ⌜ 1576 ≤ length (now words) ⌝ }
-    ensures { λ _. ⌜ now (words .exit) ≡ put (now (words .entry)) 8 (g .counts) ⌝ }
+// The words hold what this ledger has for link l.
+pub fn set_count(words: &mut [u64], g: Ledger, l: usize)
+    requires { ⌜ (l < 16) × (1576 ≤ length (now words)) ⌝ }
+    ensures { λ _. ⌜ now (words .exit) ≡ set (now (words .entry)) (8 + l) (getD (g .counts) l 0) ⌝ }
 {
-    let mut i: usize = 0;
-    while i < 16 {
-        words[8 + i] = g.counts[i];
-        i += 1;
-    }
+    words[8 + l] = g.counts[l];
 }
 
 // The blocks of all links. Here and below the loop always has sixteen turns, so that it is unrolled.
@@ -62,7 +57,7 @@ pub fn total_of(g: Ledger) -> u64
 }
 
 // What x is above r.
-fn above(x: u64, r: u64) -> u64
+pub fn above(x: u64, r: u64) -> u64
     ensures { λ y. ⌜ y ≡ x - r ⌝ }
 {
     if r < x { x - r } else { 0 }

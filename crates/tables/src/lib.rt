@@ -3,10 +3,9 @@ ghost use mathlib.Core.Path.{_≡_};
 ghost use mathlib.Core.Bool.{true, cond};
 ghost use Prim.Native.Nat.{_+_, _*_, _-_, _≤_, _<_};
 ghost use lib.ListN.{length};
-ghost use Rattle.tables.specs.Tables.{cap, placeOk, placesOk, placeCost, costs, keyEq, keyNew, keysOk, allowed, settingsOk, linkOk, idle, linkAt, usedOf, tablesOk};
+ghost use Rattle.tables.specs.Tables.{links, cap, placeOk, placesOk, placeCost, costs, keyEq, keyNew, keysOk, allowed, settingsOk, linkOk, idle, linkAt, usedOf, tablesOk};
 ghost use Rattle.octets.specs.Tests.{all};
-use crate::ledger::ledger_of;
-use crate::ledger::over_of;
+use crate::ledger::above;
 use model::blocks_of;
 
 pub mod ledger;
@@ -78,7 +77,7 @@ fn keys_ok(words: &[u64], p: usize, u: usize) -> bool
     requires { ⌜ (p + u ≤ 128) × (1576 ≤ length (now words)) ⌝ }
     ensures { λ r. ⌜ r ≡ keysOk (now (words .entry)) p u ⌝ }
 {
-    let mut i: usize = 0;
+    let mut i: usize = 1;
     while i < u {
         if !key_new(words, p, i) {
             return false;
@@ -159,12 +158,55 @@ fn link_ok(words: &[u64], l: usize) -> bool
     keys_ok(words, 8 * l, v)
 }
 
+// Whether there is nothing at four places for links, from l on. All is read before it is compared, so that it is compared at once.
+fn four_idle(words: &[u64], l: usize) -> bool
+    requires { ⌜ (l + 4 ≤ 16) × (1576 ≤ length (now words)) ⌝ }
+    ensures { λ r. ⌜ r ≡ all (λ i. idle (now (words .entry)) (l + i)) 4 ⌝ }
+{
+    let u0 = words[24 + l];
+    let u1 = words[25 + l];
+    let u2 = words[26 + l];
+    let u3 = words[27 + l];
+    let c0 = words[8 + l];
+    let c1 = words[9 + l];
+    let c2 = words[10 + l];
+    let c3 = words[11 + l];
+    if u0 != 0 {
+        return false;
+    }
+    if c0 != 0 {
+        return false;
+    }
+    if u1 != 0 {
+        return false;
+    }
+    if c1 != 0 {
+        return false;
+    }
+    if u2 != 0 {
+        return false;
+    }
+    if c2 != 0 {
+        return false;
+    }
+    if u3 != 0 {
+        return false;
+    }
+    c3 == 0
+}
+
 // Whether there is nothing where there are no links, from n on.
 fn past_ok(words: &[u64], n: usize) -> bool
     requires { ⌜ (n ≤ 16) × (1576 ≤ length (now words)) ⌝ }
     ensures { λ r. ⌜ r ≡ all (λ i. idle (now (words .entry)) (n + i)) (16 - n) ⌝ }
 {
     let mut l = n;
+    while l + 4 <= 16 {
+        if !four_idle(words, l) {
+            return false;
+        }
+        l += 4;
+    }
     while l < 16 {
         if words[24 + l] != 0 {
             return false;
@@ -175,21 +217,6 @@ fn past_ok(words: &[u64], n: usize) -> bool
         l += 1;
     }
     true
-}
-
-fn links_ok(words: &[u64]) -> bool
-    requires { ⌜ (1576 ≤ length (now words)) × (settingsOk (now words) ≡ true) ⌝ }
-    ensures { λ r. ⌜ r ≡ all (linkAt (now (words .entry))) 16 ⌝ }
-{
-    let n = words[1] as usize;
-    let mut l: usize = 0;
-    while l < n {
-        if !link_ok(words, l) {
-            return false;
-        }
-        l += 1;
-    }
-    past_ok(words, n)
 }
 
 // The blocks of the first n links, by the counts.
@@ -206,20 +233,35 @@ pub fn used(words: &[u64], n: usize) -> usize
     sum
 }
 
-pub fn tables_ok(words: &[u64]) -> bool
-    ensures { λ r. ⌜ r ≡ tablesOk (now (words .entry)) ⌝ }
+// The blocks that all links have in use, or a number that no store has where the tables are not sound.
+pub fn checked_used(words: &[u64]) -> usize
+    ensures { λ r. ⌜ r ≡ cond (tablesOk (now (words .entry))) (usedOf (now (words .entry)) (links (now (words .entry)))) 65535 ⌝ }
 {
     if words.len() < 1576 {
-        return false;
+        return 65535;
     }
     if !settings_ok(words) {
-        return false;
+        return 65535;
     }
-    if !links_ok(words) {
-        return false;
-    }
-    let n = words[1];
+    let n = words[1] as usize;
     let r = words[3];
-    let e = over_of(ledger_of(words), r);
-    e <= words[2] - n * r
+    let mut used: usize = 0;
+    let mut over: u64 = 0;
+    let mut l: usize = 0;
+    while l < n {
+        if !link_ok(words, l) {
+            return 65535;
+        }
+        let k = words[8 + l];
+        used += k as usize;
+        over += above(k, r);
+        l += 1;
+    }
+    if !past_ok(words, n) {
+        return 65535;
+    }
+    if words[2] - words[1] * r < over {
+        return 65535;
+    }
+    used
 }

@@ -1,13 +1,11 @@
 use Rattle.chain.proofs.each_ok.Statement.{statement}
 use Rattle.chain.proofs.each_ok.Tie as tie
-use Rattle.chain.proofs.each_ok.Reads as reads
-use Rattle.chain.proofs.each_ok.Lts as lts
-use Prim.Native.Nat.{ℕ, _+_, _*_, _-_, _≤_, _<_}
-use mathlib.Core.Path.{_≡_, refl, sym, ap, _∙_}
-use mathlib.Core.Bool.{true, false}
+use Prim.Native.Nat.{_+_, _-_, _≤_}
+use mathlib.Core.Path.{_≡_, sym, ap, _∙_}
+use mathlib.Core.Bool.{true}
 use native.Mathlib.Omega.{arith}
 use borrow.Author.Tests.{le-ltb, lt-ltb, ne-eqb, eq-eqb}
-use lib.ListN.{length, getD}
+use lib.ListN.{getD}
 use lib.Dec.{ltb}
 use denote.Ref.{now}
 use Rattle.chain.specs.Chain.{homeAt}

@@ -1,15 +1,10 @@
 use Rattle.chain.proofs.homed_ok.Statement.{statement}
 use Rattle.chain.proofs.homed_ok.Tie as tie
-use Rattle.chain.proofs.homed_ok.Reads as reads
-use Rattle.chain.proofs.homed_ok.Lts as lts
-use Rattle.chain.proofs.rest_ok.Reads as rest-ok-reads
-use Rattle.chain.proofs.stretch_ok.Reads as stretch-ok-reads
-use Prim.Native.Nat.{ℕ, _+_, _*_, _-_, _≤_, _<_}
-use mathlib.Core.Path.{_≡_, refl, sym, ap, _∙_}
-use mathlib.Core.Bool.{true, false}
+use Prim.Native.Nat.{_+_, _-_, _≤_}
+use mathlib.Core.Path.{_≡_, refl, sym, _∙_}
+use mathlib.Core.Bool.{true}
 use native.Mathlib.Omega.{arith}
 use borrow.Author.Tests.{not-true, not-false}
-use lib.ListN.{length, getD}
 use denote.Ref.{now}
 use Rattle.chain.specs.Chain.{homeAt, homed}
 use Rattle.octets.proofs.Tests.{all-none}
@@ -21,52 +16,50 @@ Inv-loop list home b n i₀ i = (i ≤ n) × (homed home list b i ≡ true)
 abbrev μ-loop : tie.MeasureT-loop
 μ-loop list home b n i₀ i = n - i
 
--- src/lib.rt:102:5
+each-ok-requires : tie.Need-each-ok-requires Inv-loop μ-loop
+each-ok-requires c κs = (omega arith, omega arith)
+
+returns : tie.Need-returns Inv-loop μ-loop
+returns c =
+    let a = c .before .before .before .before .args in
+    c .each-ok .ensures ∙ all-join (homeAt (now (a .home)) (now (a .list)) (a .b)) 0 (a .n) (a .n) (all-none _) (omega arith)
+
 loop-holds : tie.Need-loop-holds Inv-loop μ-loop
 loop-holds c = (omega arith, all-none _)
 
--- src/lib.rt:102:11
 add-loop : tie.Need-add-loop Inv-loop μ-loop
 add-loop c = omega arith
 
--- src/lib.rt:103:13
 stretch-ok-requires : tie.Need-stretch-ok-requires Inv-loop μ-loop
 stretch-ok-requires c κs = (omega arith, omega arith, omega arith, omega arith, omega arith)
 
--- src/lib.rt:104:13
-returns : tie.Need-returns Inv-loop μ-loop
-returns c =
-    let a = c .before .before .before .before .before .before .args in
+returns-2 : tie.Need-returns-2 Inv-loop μ-loop
+returns-2 c =
+    let a = c .before .before .before .before .before .before .before .args in
     let p = homeAt (now (a .home)) (now (a .list)) (a .b) in
-    sym (all-cut p (c .before .before .before .loop .i + 64) (a .n) (omega arith) (sym (all-join p (c .before .before .before .loop .i) 64 (c .before .before .before .loop .i + 64) (c .before .before .before .loop .inv .1) refl) ∙ sym (c .before .stretch-ok .ensures) ∙ not-true _ (c .if1 .taken)))
+    sym (all-cut p (c .before .before .before .loop .i + 64) (a .n) (omega arith) (sym (all-join p (c .before .before .before .loop .i) 64 (c .before .before .before .loop .i + 64) (c .before .before .before .loop .inv .1) refl) ∙ sym (c .before .stretch-ok .ensures) ∙ not-true _ (c .if2 .taken)))
 
--- src/lib.rt:106:9
 add-i : tie.Need-add-i Inv-loop μ-loop
 add-i c = omega arith
 
--- src/lib.rt:102:5
 loop-less : tie.Need-loop-less Inv-loop μ-loop
 loop-less c = omega arith
 
--- src/lib.rt:102:5
 loop-again : tie.Need-loop-again Inv-loop μ-loop
 loop-again c =
-    let a = c .before .before .before .before .before .before .args in
+    let a = c .before .before .before .before .before .before .before .args in
     let p = homeAt (now (a .home)) (now (a .list)) (a .b) in
-    (omega arith, sym (all-join p (c .before .before .before .loop .i) 64 (c .before .before .before .loop .i + 64) (c .before .before .before .loop .inv .1) refl) ∙ sym (c .before .stretch-ok .ensures) ∙ not-false _ (c .if1 .left))
+    (omega arith, sym (all-join p (c .before .before .before .loop .i) 64 (c .before .before .before .loop .i + 64) (c .before .before .before .loop .inv .1) refl) ∙ sym (c .before .stretch-ok .ensures) ∙ not-false _ (c .if2 .left))
 
--- src/lib.rt:108:31
 sub-rest-ok : tie.Need-sub-rest-ok Inv-loop μ-loop
 sub-rest-ok c = omega arith
 
--- src/lib.rt:108:5
 rest-ok-requires : tie.Need-rest-ok-requires Inv-loop μ-loop
 rest-ok-requires c κs = (omega arith, omega arith, omega arith, omega arith)
 
--- src/lib.rt:97:1
-returns-2 : tie.Need-returns-2 Inv-loop μ-loop
-returns-2 c =
-    let a = c .before .before .before .before .before .args in
+returns-3 : tie.Need-returns-3 Inv-loop μ-loop
+returns-3 c =
+    let a = c .before .before .before .before .before .before .args in
     c .rest-ok .ensures ∙ all-join (homeAt (now (a .home)) (now (a .list)) (a .b)) (c .before .before .loop .i) (a .n - c .before .before .loop .i) (a .n) (c .before .before .loop .inv .1) (omega arith)
 
 pub homed-ok-spec : {M : Type 1} → statement M
@@ -75,13 +68,15 @@ homed-ok-spec =
     (tie.spec
     Inv-loop
     μ-loop
+    each-ok-requires
+    returns
     loop-holds
     add-loop
     stretch-ok-requires
-    returns
+    returns-2
     add-i
     loop-less
     loop-again
     sub-rest-ok
     rest-ok-requires
-    returns-2)
+    returns-3)

@@ -12,7 +12,6 @@ use Rattle.chain.proofs.resize.Lts as lts
 use Rattle.chain.proofs.insert.Reads as insert-reads
 use Rattle.chain.proofs.release.Reads as release-reads
 
--- src/lib.rt:280:9
 returns : tie.Need-returns
 returns c =
     let a = c .before .before .before .args in
@@ -20,35 +19,27 @@ returns c =
     let x : a .m + a .n - a .k ≡ a .m = omega (arith, c .if1 .taken) in
     (ap (homed (now (a .home)) (now (a .list)) (a .b)) x ∙ pre .6, resized-same (now (a .list)) (a .m) (a .a) (a .k) (a .n) (c .if1 .taken) (pre .0))
 
--- src/lib.rt:283:34
 add-insert : tie.Need-add-insert
 add-insert c = search needs
 
--- src/lib.rt:283:9
 insert-requires : tie.Need-insert-requires
 insert-requires c κs = search needs
 
--- src/lib.rt:285:35
 add-release : tie.Need-add-release
 add-release c = search needs
 
--- src/lib.rt:285:42
 add-release-2 : tie.Need-add-release-2
 add-release-2 c = search needs
 
--- src/lib.rt:285:9
 release-requires : tie.Need-release-requires
 release-requires c κs = search needs
 
--- src/lib.rt:274:1
 same-length : tie.Need-same-length
 same-length c = search needs
 
--- src/lib.rt:274:1
 same-length-2 : tie.Need-same-length-2
 same-length-2 c = search needs
 
--- src/lib.rt:274:1
 returns-2 : tie.Need-returns-2
 returns-2 c =
     let a = c .before .before .before .before .before .before .before .before .before .before .before .args in
@@ -56,15 +47,12 @@ returns-2 c =
     let x : a .m + a .n - a .k ≡ a .m + (a .n - a .k) = omega (arith, c .before .before .before .before .before .before .before .if2 .taken) in
     (ap (homed (c .before .before .before .before .insert .last .1 .0) (c .before .before .before .before .insert .last .0) (a .b)) x ∙ c .before .before .before .before .insert .ensures .1, resized-more (now (a .list)) (c .before .before .before .before .insert .last .0) (a .m) (a .a) (a .k) (a .n) (c .before .before .before .before .before .before .before .if2 .taken) (pre .0) (omega (arith, pre, c .before .before .before .before .insert .kept .0)) (c .before .before .before .before .insert .ensures .0))
 
--- src/lib.rt:274:1
 same-length-3 : tie.Need-same-length-3
 same-length-3 c = search needs
 
--- src/lib.rt:274:1
 same-length-4 : tie.Need-same-length-4
 same-length-4 c = search needs
 
--- src/lib.rt:274:1
 returns-3 : tie.Need-returns-3
 returns-3 c =
     let a = c .before .before .before .before .before .before .before .before .before .before .before .args in

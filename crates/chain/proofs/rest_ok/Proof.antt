@@ -1,51 +1,38 @@
 use borrow.Author.Needs.{needs}
 use Rattle.chain.proofs.rest_ok.Statement.{statement}
 use Rattle.chain.proofs.rest_ok.Tie as tie
-use Rattle.chain.proofs.rest_ok.Reads as reads
-use Rattle.chain.proofs.rest_ok.Lts as lts
-use Rattle.chain.proofs.each_ok.Reads as each-ok-reads
-use Rattle.chain.proofs.stretch_ok.Reads as stretch-ok-reads
-use Prim.Native.Nat.{ℕ, _+_, _*_, _-_, _≤_, _<_}
-use mathlib.Core.Path.{_≡_, refl, sym, ap, _∙_}
-use mathlib.Core.Bool.{true, false}
+use Prim.Native.Nat.{_+_, _-_}
+use mathlib.Core.Path.{sym, _∙_}
 use native.Mathlib.Omega.{arith}
 use borrow.Author.Tests.{not-true, not-false}
-use lib.ListN.{length, getD}
 use denote.Ref.{now}
 use Rattle.chain.specs.Chain.{homeAt}
 use Rattle.chain.proofs.Step.{rest-join, all-cut}
 
--- src/lib.rt:88:9
 each-ok-requires : tie.Need-each-ok-requires
 each-ok-requires c κs = search needs
 
--- src/lib.rt:88:9
 returns : tie.Need-returns
 returns c = search needs
 
--- src/lib.rt:90:9
 stretch-ok-requires : tie.Need-stretch-ok-requires
 stretch-ok-requires c κs = search needs
 
--- src/lib.rt:91:9
 returns-2 : tie.Need-returns-2
 returns-2 c =
     let a = c .before .before .before .before .before .args in
     sym (all-cut (λ t. homeAt (now (a .home)) (now (a .list)) (a .b) (a .i + t)) 32 (a .m) (omega arith) (sym (c .before .stretch-ok .ensures) ∙ not-true _ (c .if2 .taken)))
 
--- src/lib.rt:93:28
 add-each-ok : tie.Need-add-each-ok
 add-each-ok c = search needs
 
--- src/lib.rt:93:5
 each-ok-requires-2 : tie.Need-each-ok-requires-2
 each-ok-requires-2 c κs = search needs
 
--- src/lib.rt:83:1
 returns-3 : tie.Need-returns-3
 returns-3 c =
     let a = c .before .before .before .before .before .before .args in
-    c .each-ok2 .ensures ∙ rest-join (homeAt (now (a .home)) (now (a .list)) (a .b)) (a .i) 32 (a .m) (omega arith) (sym (c .before .before .stretch-ok .ensures) ∙ not-false _ (c .before .if2 .left))
+    c .each-ok2 .ensures ∙ rest-join (homeAt (now (a .home)) (now (a .list)) (a .b)) (a .i) 32 (a .m - 32) (a .m) (omega arith) (sym (c .before .before .stretch-ok .ensures) ∙ not-false _ (c .before .if2 .left))
 
 pub rest-ok-spec : {M : Type 1} → statement M
 rest-ok-spec =

@@ -1,16 +1,14 @@
-use Prim.Native.Nat.{ℕ, suc, _+_, _*_, _-_, _/_, _%_, _≤_, _<_}
+use Prim.Native.Nat.{ℕ, _+_, _*_, _-_, _/_, _%_, _≤_, _<_}
 use mathlib.Core.Path.{_≡_, refl, sym, ap, _∙_}
 use mathlib.Core.Logic.{⊎-elim}
-use mathlib.Core.List.{List}
 use native.Mathlib.Omega.{arith}
-use borrow.Author.Needs.{needs}
-use lib.ListN.{length, getD, take, drop, length-drop}
+use lib.ListN.{length, getD, take}
 use lib.Seq.{take-length, getD-take, length-take-le}
 use denote.Ref.{now}
 use Rattle.octets.specs.Emit.{put}
-use Rattle.chain.specs.Chain.{flat, chainOk}
-use Rattle.octets.proofs.Put.{put-nil, put-put, length-put}
-use Rattle.chain.proofs.Flat.{write-more, below}
+use Rattle.chain.specs.Chain.{flat}
+use Rattle.octets.proofs.Put.{put-nil}
+use Rattle.chain.proofs.Flat.{write-more, run-below, run-take}
 use Rattle.chain.proofs.write_at.Statement.{statement}
 use Rattle.chain.proofs.write_at.Tie as tie
 
@@ -23,19 +21,22 @@ abbrev μ-loop : tie.MeasureT-loop
 
 -- what a turn knows of its n octets, where n is settled
 turn : (c : tie.Joined1 Inv-loop μ-loop)
-    → let at = c .before .before .before in
+    → let at = c .before .before .before .before in
     let a = at .before .before .before .before .args in
     let w = a .v + at .loop .done in
-    (0 < c .if1 .part) × (w % 64 + c .if1 .part ≤ 64) × (at .loop .done + c .if1 .part ≤ length (now (a .src))) × (w / 64 < a .n) × (getD (now (a .list)) (w / 64) 0 < a .b)
+    let r = c .before .run .result in
+    (0 < c .if1 .part) × (w % 64 + c .if1 .part ≤ 64 * r) × (at .loop .done + c .if1 .part ≤ length (now (a .src))) × (w / 64 + r ≤ a .n) × (getD (now (a .list)) (w / 64) 0 + r ≤ a .b)
 turn c =
-    let at = c .before .before .before in
+    let at = c .before .before .before .before in
     let start = at .before .before .before .before in
     let a = start .args in
     let i = (a .v + at .loop .done) / 64 in
-    let ln : length (take (a .n) (now (a .list))) ≡ a .n = length-take-le (a .n) (now (a .list)) (omega (arith, start .pre)) in
-    let hi : i < a .n = omega (arith, start .pre, c .before .before) in
-    let x< : getD (now (a .list)) i 0 < a .b = rw (getD-take (a .n) (now (a .list)) i 0 hi) at (below (a .b) (take (a .n) (now (a .list))) i (start .pre .2) (omega arith)) in
-    ⊎-elim (λ w. omega (arith, start .pre, c .before .before)) (λ w. omega (arith, start .pre, c .before .before)) (c .if1 .came)
+    let run = c .before .run in
+    let l = take (a .n) (now (a .list)) in
+    let ln : length l ≡ a .n = length-take-le (a .n) (now (a .list)) (omega (arith, start .pre)) in
+    let hi : i + run .result ≤ a .n = omega (arith, start .pre, c .before .before .before, run .ensures) in
+    let x< : getD (now (a .list)) i 0 + run .result ≤ a .b = rw (getD-take (a .n) (now (a .list)) i 0 (omega (arith, run .ensures))) at (run-below (a .b) l i (run .result) (start .pre .2) (omega (arith, run .ensures)) (omega arith) (run-take (now (a .list)) (a .n) i (run .result) hi (run .ensures .2))) in
+    ⊎-elim (λ w. omega (arith, start .pre, c .before .before .before, run .ensures)) (λ w. omega (arith, start .pre, c .before .before .before, run .ensures)) (c .if1 .came)
 
 loop-holds : tie.Need-loop-holds Inv-loop μ-loop
 loop-holds c = (omega arith, refl, sym (put-nil (flat (now (c .before .before .before .args .blocks)) (take (c .before .before .before .args .n) (now (c .before .before .before .args .list)))) (c .before .before .before .args .v)))
@@ -53,6 +54,24 @@ cast-x : tie.Need-cast-x Inv-loop μ-loop
 cast-x c =
     let at = c .before .before in
     omega (arith, c .shared-slice-known3 .given ((at .before .before .before .before .args .v + at .loop .done) / 64))
+
+sub-run : tie.Need-sub-run Inv-loop μ-loop
+sub-run c = omega arith
+
+add-run : tie.Need-add-run Inv-loop μ-loop
+add-run c = omega arith
+
+sub-run-2 : tie.Need-sub-run-2 Inv-loop μ-loop
+sub-run-2 c = omega arith
+
+add-run-2 : tie.Need-add-run-2 Inv-loop μ-loop
+add-run-2 c = omega arith
+
+run-requires : tie.Need-run-requires Inv-loop μ-loop
+run-requires c κs = omega arith
+
+mul-part : tie.Need-mul-part Inv-loop μ-loop
+mul-part c = omega arith
 
 sub-part : tie.Need-sub-part Inv-loop μ-loop
 sub-part c = omega arith
@@ -82,17 +101,19 @@ loop-again : tie.Need-loop-again Inv-loop μ-loop
 loop-again c =
     let called = c .before .before .before in
     let joined = called .before .before in
-    let at = joined .before .before .before in
+    let at = joined .before .before .before .before in
+    let run = joined .before .run in
     let start = at .before .before .before .before in
     let a = start .args in
     let t = turn joined in
     let l = take (a .n) (now (a .list)) in
     let ln : length l ≡ a .n = length-take-le (a .n) (now (a .list)) (omega (arith, start .pre)) in
-    let x= : getD l ((a .v + at .loop .done) / 64) 0 ≡ getD (now (a .list)) ((a .v + at .loop .done) / 64) 0 = getD-take (a .n) (now (a .list)) ((a .v + at .loop .done) / 64) 0 (omega (arith, t)) in (
+    let up = run-take (now (a .list)) (a .n) ((a .v + at .loop .done) / 64) (run .result) (omega (arith, t)) (run .ensures .2) in
+    let x= : getD l ((a .v + at .loop .done) / 64) 0 ≡ getD (now (a .list)) ((a .v + at .loop .done) / 64) 0 = getD-take (a .n) (now (a .list)) ((a .v + at .loop .done) / 64) 0 (omega (arith, t, run .ensures)) in (
       omega (arith, t),
       called .copy .kept .0 ∙ at .loop .inv .1,
-      write-more (a .b) (now (a .blocks)) (at .loop .blocks) (called .copy .last .0) l (a .v) (now (a .src)) (at .loop .done) (joined .if1 .part)
-          (omega (arith, start .pre)) (omega (arith, start .pre, at .loop .inv)) (start .pre .2) (omega (arith, start .pre)) (omega (arith, t)) (omega (arith, t)) (omega (arith, t))
+      write-more (a .b) (now (a .blocks)) (at .loop .blocks) (called .copy .last .0) l (a .v) (now (a .src)) (at .loop .done) (joined .if1 .part) (run .result)
+          (omega (arith, start .pre)) (omega (arith, start .pre, at .loop .inv)) (start .pre .2) (omega (arith, start .pre)) (omega (arith, t)) up (omega (arith, t)) (omega (arith, t))
           (at .loop .inv .2) (rw x= (called .copy .ensures)),
     )
 
@@ -119,6 +140,12 @@ write-at-spec =
     mul-x
     shared-slice-read-x
     cast-x
+    sub-run
+    add-run
+    sub-run-2
+    add-run-2
+    run-requires
+    mul-part
     sub-part
     sub-if1
     sub-part-2

@@ -8,8 +8,8 @@ use denote.Ref.{now}
 use Rattle.tables.specs.Tables.{links, blocksIn, reserve, cap, count, units, excessOf, counts, over}
 use Rattle.tables.proofs.Laws.{tables, settings}
 use Rattle.tables.proofs.Counts.{over-after, after-low}
-use Rattle.pool.proofs.Near.{near}
-use Rattle.pool.proofs.Refused.{says-11, says-12, says-13, says-2}
+use Rattle.pool.proofs.Near.{near, own}
+use Rattle.pool.proofs.Refused.{says-11, says-12, says-13, says-2, within-2, less-2}
 use Rattle.pool.proofs.link.room.Statement.{statement}
 use Rattle.pool.proofs.link.room.Tie as tie
 
@@ -59,52 +59,67 @@ add-if1-2 : tie.Need-add-if1-2
 add-if1-2 c = omega (arith, bd (c .before .before))
 
 returns : tie.Need-returns
-returns c = sym (says-11 (now (c .before .before .before .args .words)) (c .before .before .before .args .l) (c .before .before .before .args .u) (c .before .before .before .args .k) (c .before .before .before .args .n) (c .if1 .taken))
+returns c =
+    let a = c .before .before .before .args in
+    sym (says-11 (now (a .words)) (a .l) (a .u) (a .k) (a .n) (c .if1 .taken))
+
+returns-2 : tie.Need-returns-2
+returns-2 c =
+    let a = c .before .before .before .before .args in
+    let t = tables (now (a .words)) (c .before .before .before .before .pre .0) in
+    sym (less-2 (now (a .words)) (a .l) (a .u) (a .k) (a .n) (c .before .if1 .left) t (own (now (a .words)) (a .l) t (c .before .before .before .before .pre .1)) (c .before .before .before .before .pre .3) (c .if2 .taken))
 
 add-before : tie.Need-add-before
-add-before c = omega (arith, bd (c .before .before .before))
+add-before c = omega (arith, bd (c .before .before .before .before))
 
 mul-before : tie.Need-mul-before
-mul-before c = omega (arith, bd (c .before .before .before))
+mul-before c = omega (arith, bd (c .before .before .before .before))
 
 shared-slice-read-before : tie.Need-shared-slice-read-before
-shared-slice-read-before c = omega (arith, bd (c .before .before .before .before))
+shared-slice-read-before c = omega (arith, bd (c .before .before .before .before .before))
 
 add-after : tie.Need-add-after
-add-after c = omega (arith, bd (c .before .before .before .before))
+add-after c = omega (arith, bd (c .before .before .before .before .before))
 
 sub-after : tie.Need-sub-after
 sub-after c = search needs
 
-shared-slice-read-if2 : tie.Need-shared-slice-read-if2
-shared-slice-read-if2 c = omega (arith, bd (c .before .before .before .before .before))
+shared-slice-read-if3 : tie.Need-shared-slice-read-if3
+shared-slice-read-if3 c = omega (arith, bd (c .before .before .before .before .before .before))
 
-returns-2 : tie.Need-returns-2
-returns-2 c = sym (says-12 (now (c .before .before .before .before .before .before .args .words)) (c .before .before .before .before .before .before .args .l) (c .before .before .before .before .before .before .args .u) (c .before .before .before .before .before .before .args .k) (c .before .before .before .before .before .before .args .n) (c .before .before .before .if1 .left) (c .if2 .taken))
+returns-3 : tie.Need-returns-3
+returns-3 c =
+    let a = c .before .before .before .before .before .before .before .args in
+    sym (says-12 (now (a .words)) (a .l) (a .u) (a .k) (a .n) (c .before .before .before .before .if1 .left) (c .if3 .taken))
 
 shared-slice-read-r : tie.Need-shared-slice-read-r
-shared-slice-read-r c = omega (arith, bd (c .before .before .before .before .before .before .before))
+shared-slice-read-r c = omega (arith, bd (c .before .before .before .before .before .before .before .before))
+
+returns-4 : tie.Need-returns-4
+returns-4 c =
+    let a = c .before .before .before .before .before .before .before .before .before .args in
+    sym (within-2 (now (a .words)) (a .l) (a .u) (a .k) (a .n) (c .before .before .before .before .before .before .if1 .left) (c .before .before .if3 .left) (tables (now (a .words)) (c .before .before .before .before .before .before .before .before .before .pre .0)) (c .if4 .taken))
 
 ledger-of-requires : tie.Need-ledger-of-requires
-ledger-of-requires c κs = bd (c .before .before .before .before .before .before .before) .long
+ledger-of-requires c κs = bd (c .before .before .before .before .before .before .before .before .before) .long
 
 recounted-requires : tie.Need-recounted-requires
-recounted-requires c κs = bd (c .before .before .before .before .before .before .before .before) .low-link
+recounted-requires c κs = bd (c .before .before .before .before .before .before .before .before .before .before) .low-link
 
 -- the ledger that the last test is on
 changed : (c : tie.After-recounted) →
-    let a = c .before .before .before .before .before .before .before .before .before .args in
+    let a = c .before .before .before .before .before .before .before .before .before .before .before .args in
     c .recounted .result .counts ≡ set (counts (now (a .words))) (a .l) (count (now (a .words)) (a .l) + a .n - a .k)
 changed c =
-    let a = c .before .before .before .before .before .before .before .before .before .args in
+    let a = c .before .before .before .before .before .before .before .before .before .before .before .args in
     c .recounted .ensures ∙ ap (λ (g : List ℕ). set g (a .l) (count (now (a .words)) (a .l) + a .n - a .k)) (c .before .ledger-of .ensures)
 
 judged : (c : tie.After-over-of) →
-    let a = c .before .before .before .before .before .before .before .before .before .before .args in
+    let a = c .before .before .before .before .before .before .before .before .before .before .before .before .args in
     let w = now (a .words) in
     c .over-of .result + (count w (a .l) - reserve w) ≡ excessOf w (links w) + (count w (a .l) + a .n - a .k - reserve w)
 judged c =
-    let s = c .before .before .before .before .before .before .before .before .before .before in
+    let s = c .before .before .before .before .before .before .before .before .before .before .before .before in
     let w = now (s .args .words) in
     let t = tables w (s .pre .0) in
     ap (λ (y : ℕ). y + (count w (s .args .l) - reserve w)) (c .over-of .ensures ∙ ap (over (reserve w)) (changed (c .before)))
@@ -112,32 +127,33 @@ judged c =
 
 over-of-requires : tie.Need-over-of-requires
 over-of-requires c κs =
-    let w = now (c .before .before .before .before .before .before .before .before .before .args .words) in
-    let t = tables w (c .before .before .before .before .before .before .before .before .before .pre .0) in
-    let b = bd (c .before .before .before .before .before .before .before .before .before) in
-    λ i h. omega (arith, ap (λ (g : List ℕ). getD g i 0) (changed (c)), after-low w (t .set) (t .each) (c .before .before .before .before .before .before .before .before .before .args .l) (count w (c .before .before .before .before .before .before .before .before .before .args .l) + c .before .before .before .before .before .before .before .before .before .args .n - c .before .before .before .before .before .before .before .before .before .args .k) (b .low-link) (omega (arith, b .long)) (omega (arith, c .before .before .before .if2 .left, b .capped)) i h)
+    let a = c .before .before .before .before .before .before .before .before .before .before .before .args in
+    let w = now (a .words) in
+    let t = tables w (c .before .before .before .before .before .before .before .before .before .before .before .pre .0) in
+    let b = bd (c .before .before .before .before .before .before .before .before .before .before .before) in
+    λ i h. omega (arith, ap (λ (g : List ℕ). getD g i 0) (changed c), after-low w (t .set) (t .each) (a .l) (count w (a .l) + a .n - a .k) (b .low-link) (omega (arith, b .long)) (omega (arith, c .before .before .before .before .if3 .left, b .capped)) i h)
 
-shared-slice-read-if3 : tie.Need-shared-slice-read-if3
-shared-slice-read-if3 c = omega (arith, bd (c .before .before .before .before .before .before .before .before .before .before .before))
+shared-slice-read-if5 : tie.Need-shared-slice-read-if5
+shared-slice-read-if5 c = omega (arith, bd (c .before .before .before .before .before .before .before .before .before .before .before .before .before))
 
-shared-slice-read-if3-2 : tie.Need-shared-slice-read-if3-2
-shared-slice-read-if3-2 c = omega (arith, bd (c .before .before .before .before .before .before .before .before .before .before .before .before))
+shared-slice-read-if5-2 : tie.Need-shared-slice-read-if5-2
+shared-slice-read-if5-2 c = omega (arith, bd (c .before .before .before .before .before .before .before .before .before .before .before .before .before .before))
 
-mul-if3 : tie.Need-mul-if3
-mul-if3 c = omega (arith, bd (c .before .before .before .before .before .before .before .before .before .before .before .before))
+mul-if5 : tie.Need-mul-if5
+mul-if5 c = omega (arith, bd (c .before .before .before .before .before .before .before .before .before .before .before .before .before .before))
 
-sub-if3 : tie.Need-sub-if3
-sub-if3 c = omega (arith, bd (c .before .before .before .before .before .before .before .before .before .before .before .before))
+sub-if5 : tie.Need-sub-if5
+sub-if5 c = omega (arith, bd (c .before .before .before .before .before .before .before .before .before .before .before .before .before .before))
 
-returns-3 : tie.Need-returns-3
-returns-3 c =
-    let a = c .before .before .before .before .before .before .before .before .before .before .before .before .before .args in
-    sym (says-13 (now (a .words)) (a .l) (a .u) (a .k) (a .n) (c .before .before .before .before .before .before .before .before .before .before .if1 .left) (c .before .before .before .before .before .before .before .if2 .left) (omega (arith, c .if3 .taken, judged (c .before .before .before))))
+returns-5 : tie.Need-returns-5
+returns-5 c =
+    let a = c .before .before .before .before .before .before .before .before .before .before .before .before .before .before .before .args in
+    sym (says-13 (now (a .words)) (a .l) (a .u) (a .k) (a .n) (c .before .before .before .before .before .before .before .before .before .before .before .before .if1 .left) (c .before .before .before .before .before .before .before .before .if3 .left) (omega (arith, c .if5 .taken, judged (c .before .before .before))))
 
-returns-4 : tie.Need-returns-4
-returns-4 c =
-    let a = c .before .before .before .before .before .before .before .before .before .before .before .before .before .args in
-    sym (says-2 (now (a .words)) (a .l) (a .u) (a .k) (a .n) (c .before .before .before .before .before .before .before .before .before .before .if1 .left) (c .before .before .before .before .before .before .before .if2 .left) (omega (arith, c .if3 .left, judged (c .before .before .before))))
+returns-6 : tie.Need-returns-6
+returns-6 c =
+    let a = c .before .before .before .before .before .before .before .before .before .before .before .before .before .before .before .args in
+    sym (says-2 (now (a .words)) (a .l) (a .u) (a .k) (a .n) (c .before .before .before .before .before .before .before .before .before .before .before .before .if1 .left) (c .before .before .before .before .before .before .before .before .if3 .left) (omega (arith, c .if5 .left, judged (c .before .before .before))))
 
 pub room-spec : {M : Type 1} → statement M
 room-spec =
@@ -148,20 +164,22 @@ room-spec =
     shared-slice-read-if1
     add-if1-2
     returns
+    returns-2
     add-before
     mul-before
     shared-slice-read-before
     add-after
     sub-after
-    shared-slice-read-if2
-    returns-2
+    shared-slice-read-if3
+    returns-3
     shared-slice-read-r
+    returns-4
     ledger-of-requires
     recounted-requires
     over-of-requires
-    shared-slice-read-if3
-    shared-slice-read-if3-2
-    mul-if3
-    sub-if3
-    returns-3
-    returns-4)
+    shared-slice-read-if5
+    shared-slice-read-if5-2
+    mul-if5
+    sub-if5
+    returns-5
+    returns-6)

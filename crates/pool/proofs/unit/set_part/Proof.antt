@@ -1,7 +1,9 @@
 use borrow.Author.Needs.{needs}
+use Prim.Native.Nat.{_+_, _*_}
 use mathlib.Core.Path.{_∙_}
 use native.Mathlib.Omega.{arith}
-use lib.ListN.{length-set}
+use lib.ListN.{set, length-set}
+use denote.Ref.{now}
 use Rattle.tables.proofs.Counts.{stored}
 use Rattle.pool.proofs.unit.set_part.Statement.{statement}
 use Rattle.pool.proofs.unit.set_part.Tie as tie
@@ -75,14 +77,18 @@ sub-recounted c = search needs
 recounted-requires : tie.Need-recounted-requires
 recounted-requires c κs = search needs
 
-set-ledger-requires : tie.Need-set-ledger-requires
-set-ledger-requires c κs = search needs
+set-count-requires : tie.Need-set-count-requires
+set-count-requires c κs = (c .before .before .before .before .before .before .before .pre .0, simp length-set (omega arith))
 
 same-length : tie.Need-same-length
-same-length c = c .before .before .set-ledger .kept .0 ∙ simp length-set
+same-length c = c .before .before .set-count .kept .0 ∙ simp length-set
 
 returns : tie.Need-returns
-returns c = stored _ _ _ _ (c .before .before .before .before .before .before .before .before .before .before .args .l) _ (c .before .before .before .before .before .before .before .before .before .before .pre .0) (simp length-set (omega arith)) (c .before .before .before .before .ledger-of .ensures) (c .before .before .before .recounted .ensures) (c .before .before .set-ledger .ensures)
+returns c =
+    let a = c .before .before .before .before .before .before .before .before .before .before .args in
+    let at = 40 + 12 * (8 * a .l + a .j) in
+    let w = set (set (now (a .words)) (at + (7 + a .part)) (a .x)) (at + (9 + a .part)) (a .n) in
+    stored w _ _ _ (a .l) _ (c .before .before .before .before .before .ledger-of .ensures) (c .before .before .before .before .recounted .ensures) (c .before .before .set-count .ensures) (c .before .before .before .before .before .before .before .before .before .before .pre .0) (simp length-set (omega arith))
 
 pub set-part-spec : {M : Type 1} → statement M
 set-part-spec =
@@ -111,6 +117,6 @@ set-part-spec =
     add-recounted
     sub-recounted
     recounted-requires
-    set-ledger-requires
+    set-count-requires
     same-length
     returns)

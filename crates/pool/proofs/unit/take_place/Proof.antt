@@ -83,7 +83,7 @@ slice-write-words : tie.Need-slice-write-words
 slice-write-words c = search needs
 
 ledger-of-requires : tie.Need-ledger-of-requires
-ledger-of-requires c κs = simp length-set (omega (arith, c .before .before .before .before .before .before .before .before .down64 .kept .0, c .before .before .before .before .before .before .before .before .before .before .before .before .before .before .pre))
+ledger-of-requires c κs = simp length-set (omega (arith, c .before .before .before .before .before .before .before .down64 .kept .0, c .before .before .before .before .before .before .before .before .before .before .before .before .before .pre))
 
 sub-recounted : tie.Need-sub-recounted
 sub-recounted c = search needs
@@ -91,11 +91,11 @@ sub-recounted c = search needs
 recounted-requires : tie.Need-recounted-requires
 recounted-requires c κs = search needs
 
-set-ledger-requires : tie.Need-set-ledger-requires
-set-ledger-requires c κs = simp length-set (omega (arith, c .before .before .before .before .before .before .before .before .before .before .down64 .kept .0, c .before .before .before .before .before .before .before .before .before .before .before .before .before .before .before .before .pre))
+set-count-requires : tie.Need-set-count-requires
+set-count-requires c κs = (c .before .before .before .before .before .before .before .before .before .before .before .before .before .before .before .before .pre .0, simp length-set (omega (arith, c .before .before .before .before .before .before .before .before .before .before .down64 .kept .0, c .before .before .before .before .before .before .before .before .before .before .before .before .before .before .before .before .pre)))
 
 same-length : tie.Need-same-length
-same-length c = c .before .before .set-ledger .kept .0 ∙ simp length-set (c .before .before .before .before .before .before .before .before .before .before .before .before .before .down64 .kept .0)
+same-length c = c .before .before .set-count .kept .0 ∙ simp length-set (c .before .before .before .before .before .before .before .before .before .before .before .before .before .down64 .kept .0)
 
 same-length-2 : tie.Need-same-length-2
 same-length-2 c = search needs
@@ -104,7 +104,7 @@ returns : tie.Need-returns
 returns c =
     let a = c .before .before .before .before .before .before .before .before .before .before .before .before .before .before .before .before .before .before .before .args in
     let w = now (a .words) in (
-      stored _ _ _ _ (a .l) (count w (a .l) - a .k) (c .before .before .before .before .before .before .before .before .before .before .before .before .before .before .before .before .before .before .before .pre .0) (simp length-set (omega (arith, c .before .before .before .before .before .before .before .before .before .before .before .before .before .down64 .kept .0, c .before .before .before .before .before .before .before .before .before .before .before .before .before .before .before .before .before .before .before .pre))) (c .before .before .before .before .ledger-of .ensures) (c .before .before .before .recounted .ensures) (c .before .before .set-ledger .ensures)
+      stored (set (c .before .before .before .before .before .before .before .before .before .before .before .before .before .down64 .last .0) (24 + a .l) (units w (a .l) - 1)) _ _ _ (a .l) (count w (a .l) - a .k) (c .before .before .before .before .before .ledger-of .ensures) (c .before .before .before .before .recounted .ensures) (c .before .before .set-count .ensures) (c .before .before .before .before .before .before .before .before .before .before .before .before .before .before .before .before .before .before .before .pre .0) (simp length-set (omega (arith, c .before .before .before .before .before .before .before .before .before .before .before .before .before .down64 .kept .0, c .before .before .before .before .before .before .before .before .before .before .before .before .before .before .before .before .before .before .before .pre)))
           ∙ ap₂ (λ (x : List ℕ) (k : ℕ). set (set x (24 + a .l) (units w (a .l) - 1)) (8 + a .l) (count w (a .l) - k)) (c .before .before .before .before .before .before .before .before .before .before .before .before .before .down64 .ensures) (c .before .before .before .before .before .before .before .before .before .before .before .before .before .before .before .before .before .before .before .pre .5),
       c .before .before .before .before .before .before .before .before .before .downf .ensures,
     )
@@ -140,7 +140,7 @@ take-place-spec =
     ledger-of-requires
     sub-recounted
     recounted-requires
-    set-ledger-requires
+    set-count-requires
     same-length
     same-length-2
     returns)
