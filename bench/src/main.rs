@@ -1,23 +1,34 @@
 //! bench: the pool's operations, and pushes made of them, beside the Rust's own, in one run.
-//! Each figure is the least of several turns, so that other work on the machine counts little.
+//! Each figure is the least of many short turns, so that other work on the machine counts little; where two are compared, their
+//! turns alternate.
 mod store;
 
-use oracle::atn::{parse_x25, ClnpReassembler, CotpReassembler, X25Packet, X25Reassembler};
+use oracle::atn::{parse_x25, ClnpReassembler, CotpReassembler, X25Reassembler};
 use std::hint::black_box;
 use std::time::Instant;
 use store::Store;
 
-/// The least time of one call of f, in ns: `turns` turns of `calls` calls.
-fn least(turns: usize, calls: usize, mut f: impl FnMut()) -> f64 {
-    let mut best = f64::INFINITY;
-    for _ in 0..turns {
-        let began = Instant::now();
-        for _ in 0..calls {
-            f();
-        }
-        best = best.min(began.elapsed().as_nanos() as f64 / calls as f64);
+/// The time of one call of f, in ns, over so many.
+fn turn(calls: usize, f: &mut impl FnMut()) -> f64 {
+    let began = Instant::now();
+    for _ in 0..calls {
+        f();
     }
-    best
+    began.elapsed().as_nanos() as f64 / calls as f64
+}
+
+/// The least time of one call of f: `turns` turns of `calls` calls.
+fn least(turns: usize, calls: usize, mut f: impl FnMut()) -> f64 {
+    (0..turns)
+        .map(|_| turn(calls, &mut f))
+        .fold(f64::INFINITY, f64::min)
+}
+
+/// The same of two, turn by turn.
+fn both(turns: usize, calls: usize, mut f: impl FnMut(), mut g: impl FnMut()) -> (f64, f64) {
+    (0..turns).fold((f64::INFINITY, f64::INFINITY), |(x, y), _| {
+        (x.min(turn(calls, &mut f)), y.min(turn(calls, &mut g)))
+    })
 }
 
 fn key(n: u64) -> [u64; 6] {
@@ -50,7 +61,7 @@ fn single() {
         let mut s = filled(blocks, units);
         println!(
             "| b = {blocks}, {units} units | {:.0} |",
-            least(20, 20000, || assert!(black_box(&mut s).test()))
+            least(200, 2000, || assert!(black_box(&mut s).test()))
         );
     }
     println!("\none operation at b = 128 and 6 units, ns\n");
@@ -58,11 +69,11 @@ fn single() {
     let k = key(1004);
     println!(
         "| find | {:.0} |",
-        least(20, 20000, || assert_eq!(black_box(&mut s).find(0, &k), 1))
+        least(200, 2000, || assert_eq!(black_box(&mut s).find(0, &k), 1))
     );
     println!(
         "| room | {:.0} |",
-        least(20, 20000, || assert_eq!(
+        least(200, 2000, || assert_eq!(
             black_box(&mut s).room(0, 0, 4, 5),
             2
         ))
@@ -71,7 +82,7 @@ fn single() {
         let src = vec![5u8; n];
         println!(
             "| append of {n}, and cut again | {:.0} |",
-            least(20, 20000, || {
+            least(200, 2000, || {
                 s.append(0, 0, 0, &src);
                 s.splice(0, 0, 0, 200, &[]);
             })
@@ -79,17 +90,17 @@ fn single() {
     }
     println!(
         "| cut alone (to the length it has) | {:.0} |",
-        least(20, 20000, || black_box(&mut s).splice(0, 0, 0, 200, &[]))
+        least(200, 2000, || black_box(&mut s).splice(0, 0, 0, 200, &[]))
     );
     let mut out = vec![0u8; 8192];
     println!(
         "| copy out, 200 octets | {:.0} |",
-        least(20, 20000, || assert_eq!(s.read(0, 0, 0, &mut out, 0), 200))
+        least(200, 2000, || assert_eq!(s.read(0, 0, 0, &mut out, 0), 200))
     );
     let kept = s.clone();
     println!(
         "| add, and remove the last | {:.0} |",
-        least(20, 20000, || {
+        least(200, 2000, || {
             s.add(0, &key(7), 0, 0.0);
             let j = s.units(0) - 1;
             s.remove(0, j);
@@ -98,55 +109,10 @@ fn single() {
     drop(kept);
 }
 
-// ---- pushes made of the pool's operations, in document 01's order: test, expiry, find, room, and then the change
-
-/// What comes before any change: the test, expiry and the unit of the key.
-fn begin(s: &mut Store, link: usize, key: &[u64; 6], now: f64) -> usize {
-    assert!(s.test());
-    s.expire(link, now);
-    s.find(link, key)
-}
+// ---- pushes, in document 01's order: test, expiry, find, room, and then the change. Those of X.25 and COTP are one call each.
 
 fn blocks(d: usize) -> u64 {
     d.div_ceil(64) as u64
-}
-
-/// A marked piece of X.25, or a piece of COTP that is not the last: it is held.
-fn hold(s: &mut Store, link: usize, key: &[u64; 6], piece: &[u8], note: u64, now: f64) {
-    let j = begin(s, link, key, now);
-    let new = j == s.units(link);
-    let d = if new { 0 } else { s.len(link, j, 0) };
-    assert_eq!(
-        s.room(link, new as u64, blocks(d), blocks(d + piece.len())),
-        2
-    );
-    if new {
-        s.add(link, key, note, now);
-    }
-    s.splice(link, j, 0, d, piece);
-    if !new {
-        s.mark(link, j, note, now);
-    }
-}
-
-/// The last piece: the whole unit stands in the output.
-fn end(
-    s: &mut Store,
-    link: usize,
-    key: &[u64; 6],
-    piece: &[u8],
-    out: &mut [u8],
-    now: f64,
-) -> usize {
-    let j = begin(s, link, key, now);
-    if j == s.units(link) {
-        out[..piece.len()].copy_from_slice(piece);
-        return piece.len();
-    }
-    let n = s.read(link, j, 0, out, 0);
-    out[n..n + piece.len()].copy_from_slice(piece);
-    s.remove(link, j);
-    n + piece.len()
 }
 
 /// A piece of CLNP: the header where its offset is 0, the count of octets as the note.
@@ -163,7 +129,7 @@ fn clnp(
     now: f64,
     note: u64,
 ) -> usize {
-    let j = begin(s, link, key, now);
+    let j = s.begin(link, key, now);
     let new = j == s.units(link);
     let (have, head) = if new {
         (0, 0)
@@ -201,12 +167,6 @@ fn clnp(
 
 // ---- like traffic for both
 
-fn x25_packet(lcn: u8, more: bool, n: usize) -> X25Packet {
-    let mut b = vec![0x10, lcn, if more { 0x10 } else { 0 }];
-    b.extend(vec![0x55; n]);
-    parse_x25(&b).expect("a data packet")
-}
-
 fn row(name: &str, pushes: usize, rust: f64, ours: f64) {
     println!(
         "| {name} | {:.0} | {:.0} | {:.2} |",
@@ -216,28 +176,51 @@ fn row(name: &str, pushes: usize, rust: f64, ours: f64) {
     );
 }
 
-fn x25(n: usize) {
-    let (marked, last) = (x25_packet(9, true, n), x25_packet(9, false, n));
+/// Pushes of packets that are parsed already, or of their octets: then both parse first.
+fn x25(n: usize, parsed: bool) {
+    let octets = |lcn: u8, more: bool, n: usize| {
+        let mut b = vec![0x10, lcn, if more { 0x10 } else { 0 }];
+        b.extend(vec![0x55; n]);
+        b
+    };
+    let (marked, last) = (octets(9, true, n), octets(9, false, n));
+    let read = |b: &[u8]| parse_x25(black_box(b)).expect("a data packet");
+    let ready = [&marked, &marked, &marked, &last].map(|b| read(b));
     let mut r = X25Reassembler::new();
     for u in 0..6 {
-        r.push(&x25_packet(100 + u, true, 200), 0.0);
+        r.push(&read(&octets(100 + u, true, 200)), 0.0);
     }
-    let rust = least(20, 5000, || {
-        for _ in 0..3 {
-            assert!(r.push(&marked, 0.0).is_none());
+    let rust = || {
+        for (i, p) in ready.iter().enumerate() {
+            let got = if parsed {
+                r.push(p, 0.0)
+            } else {
+                r.push(&read(if i == 3 { &last } else { &marked }), 0.0)
+            };
+            assert_eq!(black_box(got).is_some(), i == 3);
         }
-        assert!(black_box(r.push(&last, 0.0)).is_some());
-    });
+    };
     let mut s = filled(128, 6);
     let mut out = vec![0u8; 8192];
+    let mut cells = vec![0u64; 4 * 300 + 64];
     let k = key(9);
-    let ours = least(20, 5000, || {
-        for _ in 0..3 {
-            hold(&mut s, 0, &k, &marked.payload, 0, 0.0);
+    let ours = || {
+        for i in 0..4 {
+            let b = if i == 3 { &last } else { &marked };
+            if !parsed {
+                assert_eq!(store::parse_x25(black_box(b), &mut cells), 0);
+            }
+            let answer = if i == 3 {
+                s.finish(0, &k, 0.0, &b[3..], &mut out)
+            } else {
+                s.hold(0, &k, 0, 0.0, &b[3..])
+            };
+            assert_eq!(answer, if i == 3 { 0 } else { 2 });
         }
-        assert_eq!(end(&mut s, 0, &k, &last.payload, &mut out, 0.0), 4 * n);
-    });
-    row(&format!("X.25, four pieces of {n}"), 4, rust, ours);
+    };
+    let (rust, ours) = both(200, 500, rust, ours);
+    let what = if parsed { "" } else { " with the parse" };
+    row(&format!("X.25{what}, four pieces of {n}"), 4, rust, ours);
 }
 
 fn cotp(n: usize) {
@@ -253,20 +236,21 @@ fn cotp(n: usize) {
         b.extend(vec![0x44; 200]);
         r.push(&b, 0.0);
     }
-    let rust = least(20, 5000, || {
+    let rust = || {
         for (i, p) in pieces.iter().enumerate() {
             assert_eq!(black_box(r.push(p, 0.0)).is_some(), i == 3);
         }
-    });
+    };
     let mut s = filled(128, 6);
     let mut out = vec![0u8; 8192];
     let k = key(9);
-    let ours = least(20, 5000, || {
+    let ours = || {
         for (i, p) in pieces[..3].iter().enumerate() {
-            hold(&mut s, 0, &k, &p[5..], i as u64 + 1, 0.0);
+            assert_eq!(s.hold(0, &k, i as u64 + 1, 0.0, &p[5..]), 2);
         }
-        assert_eq!(end(&mut s, 0, &k, &pieces[3][5..], &mut out, 0.0), 4 * n);
-    });
+        assert_eq!(s.finish(0, &k, 0.0, &pieces[3][5..], &mut out), 0);
+    };
+    let (rust, ours) = both(200, 500, rust, ours);
     row(&format!("COTP, four pieces of {n}"), 4, rust, ours);
 }
 
@@ -311,11 +295,11 @@ fn clnp_row(name: &str, blocks: u64, total: usize, n: usize, turns: usize, calls
             r.push(&clnp_pieces(200, 100, 100 + u)[0], 0.0);
         }
     }
-    let rust = least(turns, calls, || {
+    let rust = || {
         for (i, p) in pieces.iter().enumerate() {
             assert_eq!(black_box(r.push(p, 0.0)).is_some(), i + 1 == pieces.len());
         }
-    });
+    };
     let mut out = vec![0u8; 65536];
     let k = [
         9,
@@ -325,7 +309,7 @@ fn clnp_row(name: &str, blocks: u64, total: usize, n: usize, turns: usize, calls
         0x0202020202020202,
         0,
     ];
-    let ours = least(turns, calls, || {
+    let ours = || {
         let mut at = 0;
         let mut got = 0;
         for p in &pieces {
@@ -344,7 +328,8 @@ fn clnp_row(name: &str, blocks: u64, total: usize, n: usize, turns: usize, calls
             at += p.len() - 51;
         }
         assert_eq!(got, total + 51);
-    });
+    };
+    let (rust, ours) = both(turns, calls, rust, ours);
     row(name, pieces.len(), rust, ours);
 }
 
@@ -368,12 +353,12 @@ fn parsing() {
     println!("| Packet | Rust | port | ratio |\n|---|---|---|---|");
     let mut cells = vec![0u64; 4 * 300 + 64];
     for (name, b) in packets() {
-        let rust = least(20, 20000, || {
-            assert!(black_box(parse_x25(black_box(&b))).is_some())
-        });
-        let ours = least(20, 20000, || {
-            assert_eq!(store::parse_x25(black_box(&b), &mut cells), 0)
-        });
+        let (rust, ours) = both(
+            200,
+            2000,
+            || assert!(black_box(parse_x25(black_box(&b))).is_some()),
+            || assert_eq!(store::parse_x25(black_box(&b), &mut cells), 0),
+        );
         row(&name, 1, rust, ours);
     }
 }
@@ -384,8 +369,10 @@ fn main() {
     single();
     println!("\npushes, ns each, b = 128 and 6 other units pending; the last column is how many times the Rust's speed\n");
     println!("| Traffic | Rust | pool | ratio |\n|---|---|---|---|");
-    for n in [20, 128, 240] {
-        x25(n);
+    for parsed in [true, false] {
+        for n in [20, 128, 240] {
+            x25(n, parsed);
+        }
     }
     for n in [20, 128, 240] {
         cotp(n);
@@ -396,13 +383,13 @@ fn main() {
             128,
             4 * n,
             n,
-            20,
-            5000,
+            200,
+            500,
         );
     }
     println!("\nb = 1,024, one unit of 60,000 octets, completion included\n");
     println!("| Traffic | Rust | pool | ratio |\n|---|---|---|---|");
     for n in [200, 1000] {
-        clnp_row(&format!("CLNP, pieces of {n}"), 1024, 60000, n, 10, 20);
+        clnp_row(&format!("CLNP, pieces of {n}"), 1024, 60000, n, 100, 2);
     }
 }

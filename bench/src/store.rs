@@ -24,7 +24,9 @@ library! {
     calls_write(w: W, nw: usize, t: T, nt: usize, l: H, nl: usize, h: H, nh: usize, b: B, nb: usize, link: usize, j: usize, part: usize, o: usize, src: *const u8, n: usize);
     calls_mark(w: W, nw: usize, t: T, nt: usize, l: H, nl: usize, h: H, nh: usize, b: B, nb: usize, link: usize, j: usize, note: u64, at: f64);
     calls_remove(w: W, nw: usize, t: T, nt: usize, l: H, nl: usize, h: H, nh: usize, b: B, nb: usize, link: usize, j: usize);
-    calls_expire(w: W, nw: usize, t: T, nt: usize, l: H, nl: usize, h: H, nh: usize, b: B, nb: usize, link: usize, at: f64);
+    calls_begin(w: W, nw: usize, t: T, nt: usize, l: H, nl: usize, h: H, nh: usize, b: B, nb: usize, link: usize, key: *const u64, nk: usize, at: f64) -> usize;
+    calls_hold(w: W, nw: usize, t: T, nt: usize, l: H, nl: usize, h: H, nh: usize, b: B, nb: usize, link: usize, key: *const u64, nk: usize, note: u64, at: f64, piece: *const u8, n: usize) -> u64;
+    calls_finish(w: W, nw: usize, t: T, nt: usize, l: H, nl: usize, h: H, nh: usize, b: B, nb: usize, link: usize, key: *const u64, nk: usize, at: f64, piece: *const u8, n: usize, out: B, no: usize) -> u64;
     calls_read(w: W, nw: usize, t: T, nt: usize, l: H, nl: usize, h: H, nh: usize, b: B, nb: usize, link: usize, j: usize, part: usize, out: B, no: usize, at: usize) -> usize;
 }
 
@@ -137,8 +139,47 @@ impl Store {
         with!(self, calls_remove, link, j)
     }
 
-    pub fn expire(&mut self, link: usize, at: f64) {
-        with!(self, calls_expire, link, at)
+    /// What every push begins with: the test, the link, expiry, and the unit of the key.
+    pub fn begin(&mut self, link: usize, key: &[u64; 6], at: f64) -> usize {
+        with!(self, calls_begin, link, key.as_ptr(), 6, at)
+    }
+
+    /// A push whose piece is held: the answer.
+    pub fn hold(&mut self, link: usize, key: &[u64; 6], note: u64, at: f64, piece: &[u8]) -> u64 {
+        with!(
+            self,
+            calls_hold,
+            link,
+            key.as_ptr(),
+            6,
+            note,
+            at,
+            piece.as_ptr(),
+            piece.len()
+        )
+    }
+
+    /// A push whose piece ends the unit: the answer.
+    pub fn finish(
+        &mut self,
+        link: usize,
+        key: &[u64; 6],
+        at: f64,
+        piece: &[u8],
+        out: &mut [u8],
+    ) -> u64 {
+        with!(
+            self,
+            calls_finish,
+            link,
+            key.as_ptr(),
+            6,
+            at,
+            piece.as_ptr(),
+            piece.len(),
+            out.as_mut_ptr(),
+            out.len()
+        )
     }
 
     pub fn read(&mut self, link: usize, j: usize, part: usize, out: &mut [u8], at: usize) -> usize {
