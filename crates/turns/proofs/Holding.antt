@@ -30,8 +30,8 @@ front false b d e = rw e refl
 placed-there : (us : List Unit) (j : ℕ) (v : Unit) → j < length us → placed us j v ≡ set us j v
 placed-there us j v h = rw (lt-ltb j (length us) h)
 
-placed-behind : (us : List Unit) (v : Unit) → placed us (length us) v ≡ us ++ (v ∷ [])
-placed-behind us v = rw (le-ltb (length us) (length us) (omega arith))
+placed-last : (us : List Unit) (v : Unit) → placed us (length us) v ≡ us ++ (v ∷ [])
+placed-last us v = rw (le-ltb (length us) (length us) (omega arith))
 
 inUse-set : (us : List Unit) (j : ℕ) (v : Unit) → j < length us → inUse (set us j v) + costOf (getD us j blank) ≡ inUse us + costOf v
 unfolding inUse
@@ -70,7 +70,7 @@ module _ (st : List (List Unit)) (l : ℕ) (hl : l < length st) (note : ℕ) (at
       ∙ ap (set st l) (
       set-append-seam us v [] v₁
       ∙ ap (λ (b : Unit). us ++ (record { key = key; note = note; time = at; body = b .body ++ piece; top = b .top } ∷ [])) (sym n)
-      ∙ sym (placed-behind us _)
+      ∙ sym (placed-last us _)
       )
 
   pub new-held : (key : List ℕ) (u : ℕ) → length us ≡ u → spliced (added st l key note at) l u 0 0 piece ≡ set st l (held us u key true note at piece)
@@ -104,13 +104,13 @@ module _ (us : List Unit) (key : List ℕ) (note : ℕ) (at : Float) (piece : Li
       omega (arith, a, inUse-set us j v hj)
 
   new-long : length (held us (length us) key true note at piece) ≡ length us + 1
-  new-long = ap length (placed-behind us _) ∙ length-append us _
+  new-long = ap length (placed-last us _) ∙ length-append us _
 
   new-use : inUse (held us (length us) key true note at piece) ≡ inUse us + blocks (length piece)
   new-use =
       let n : getD us (length us) blank ≡ blank = List·getD-eq-default us blank (omega arith) in
       let v : Unit = record { key = key; note = note; time = at; body = piece; top = [] } in
-      ap inUse (placed-behind us _)
+      ap inUse (placed-last us _)
       ∙ ap (λ (b : Unit). inUse (us ++ (record { key = key; note = note; time = at; body = b .body ++ piece; top = b .top } ∷ []))) n
       ∙ inUse-last us v
       ∙ omega arith
