@@ -1,4 +1,6 @@
 // Item records: cells made, taken apart, put into a lent output and read back.
+#![tactic(auto)]
+
 pub mod answer;
 pub mod cell;
 pub mod class;

@@ -1,4 +1,6 @@
 // A list of block numbers in which none stands twice, with its inverse, and the octets that it spells.
+#![tactic(auto)]
+
 ghost use Rattle.std.specs.Prelude.{◌≡◌, true, cond, ◌++◌, ℕ, ◌+◌, ◌*◌, ◌-◌, ◌≤◌, ◌<◌, length, get_or, set, take, drop, replicate, eqb};
 ghost use Rattle.octets.specs.Emit.{put};
 ghost use Rattle.octets.specs.Tests.{all};

@@ -1,4 +1,6 @@
 // CLNP PDUs as item records.
+#![tactic(auto)]
+
 ghost use Rattle.std.specs.Prelude.{◌≡◌, ◌&&◌, length};
 ghost use Rattle.cells.specs.Answer.{Parsed};
 ghost use Rattle.clnp.specs.Segment.{headed as headedOf, addresses_of};

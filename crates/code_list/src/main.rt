@@ -1,4 +1,6 @@
 // Prints every code that the Rust names, with its text: FUNCTION CODE TEXT. The file stdout holds the Rust's own answers.
+#![tactic(auto)]
+
 use codes::{
     atn_security_class_name, atn_subnet_name, atn_traffic_type_name, atsc_class_name,
     clnp_option_name, cotp_dr_reason, cotp_er_reject_cause, cotp_param_name, esis_option_name,

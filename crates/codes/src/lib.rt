@@ -1,4 +1,6 @@
 // The text number of each code that the Rust names: 0 where it names none.
+#![tactic(auto)]
+
 ghost use Rattle.std.specs.Prelude.{◌≡◌, []};
 ghost use Rattle.names.specs.Ascii.{octets};
 ghost use Rattle.codes.specs.Codes.{text_in, error_subcodes, clear_causes, reset_causes, restart_causes, diagnostics, esis_options, idrp_attributes, idrp_types, idrp_errors, clnp_options, traffic_types, atsc_classes, subnets, security_classes, disconnect_reasons, reject_causes, cotp_params, open_errors, update_errors, refresh_errors};

@@ -1,4 +1,6 @@
 // COTP TPDUs as item records.
+#![tactic(auto)]
+
 ghost use Rattle.cells.specs.Answer.{Parsed};
 ghost use Rattle.std.specs.Prelude.{length};
 ghost use Rattle.cotp.specs.Tpdu.{cotp_cells};

@@ -1,4 +1,6 @@
 // ES-IS PDUs as item records.
+#![tactic(auto)]
+
 ghost use Rattle.std.specs.Prelude.{length};
 ghost use Rattle.cells.specs.Answer.{Parsed};
 ghost use Rattle.esis.specs.Pdu.{esis_cells};

@@ -1,4 +1,6 @@
 // The C boundary: numbers and slices only. Numbers that come with an answer are written into said, as far as it goes.
+#![tactic(auto)]
+
 ghost use Rattle.std.specs.Prelude.{◌≡◌, ◌∷◌, [], length, set};
 ghost use Rattle.octets.specs.Emit.{put};
 ghost use Rattle.cells.specs.Answer.{number_of, count_of, output_of};

@@ -1,3 +1,5 @@
 // What parsers share: entries of type, length and value, and members that may be left out.
+#![tactic(auto)]
+
 pub mod member;
 pub mod tlv;

@@ -1,4 +1,6 @@
 // IDRP BISPDUs as item records.
+#![tactic(auto)]
+
 ghost use Rattle.std.specs.Prelude.{length};
 ghost use Rattle.cells.specs.Answer.{Parsed};
 ghost use Rattle.idrp.specs.Pdu.{idrp_cells};

@@ -1,4 +1,6 @@
 // The model of the store is in specs/, and what is proved of it in proofs/. Of its code there is the cost of a part.
+#![tactic(auto)]
+
 ghost use Rattle.std.specs.Prelude.{◌≡◌};
 ghost use Rattle.model.specs.Cost.{blocks};
 

@@ -1,4 +1,6 @@
 // The JSON keys and fixed texts of the Rust, by number.
+#![tactic(auto)]
+
 pub mod key;
 mod nth;
 pub mod text;

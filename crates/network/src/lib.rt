@@ -1,4 +1,6 @@
 // What an X.25 unit carries, as an item record: CLNP, ES-IS, IDRP, or the label of a compressed PDU.
+#![tactic(auto)]
+
 ghost use Rattle.std.specs.Prelude.{◌≡◌, ◌≤◌, ◌<◌, length};
 ghost use Rattle.octets.specs.Emit.{Emits};
 ghost use Rattle.cells.specs.Answer.{Parsed};

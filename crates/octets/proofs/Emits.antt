@@ -1,8 +1,8 @@
 -- The laws of `Emits`.
-use mathlib.Core.Path.{◌≡◌, refl, sym, ap, ◌∙◌, subst}
-use mathlib.Core.List.{List, [], ◌∷◌, ◌++◌}
+use mathlib.Core.Path.{◌≡◌, sym, ap, ◌∙◌, subst}
+use mathlib.Core.List.{List, [], ◌++◌}
 use native.Mathlib.Decide.{dec_le}
-use Prim.Native.Nat.{ℕ, ◌+◌, ◌≤◌, ◌<◌, min}
+use Prim.Native.Nat.{ℕ, ◌+◌, ◌≤◌, ◌<◌}
 use native.Mathlib.Nat.{lt_of_not-le}
 use native.Mathlib.Omega.{arith}
 use lib.ListN.{length, length-append}

@@ -1,4 +1,6 @@
 // The printer: cells to JSON text.
+#![tactic(auto)]
+
 ghost use Rattle.print.specs.Print.{Prints};
 
 use crate::group::{Step, print_whole};

@@ -1,5 +1,7 @@
 // Prints records made by hand: all forms, nested groups, and refusals. A line has the answer's number, its length, and the
 // text, or - where there is none.
+#![tactic(auto)]
+
 use cells::answer::{count, number};
 use cells::emit::{
     close_group, open_list, open_object, put_flag, put_hex_part, put_number, put_octet_leaf,

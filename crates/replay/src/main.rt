@@ -1,4 +1,6 @@
 // Answers each line of standard input: P and N decode a packet, as document 01's 'Replay' says.
+#![tactic(auto)]
+
 ghost use Rattle.std.specs.Prelude.{◌≡◌, ◌≤◌, length};
 
 use libc::{STDIN_FILENO, STDOUT_FILENO};

@@ -1,4 +1,6 @@
 // The output line of an input line.
+#![tactic(auto)]
+
 ghost use Rattle.std.specs.Prelude.{◌≤◌, length, take};
 ghost use Rattle.octets.specs.Emit.{Emits};
 ghost use Rattle.cells.specs.Answer.{count_of, number_of};

@@ -1,4 +1,6 @@
 // The tables of a store, and the test of them.
+#![tactic(auto)]
+
 ghost use Rattle.std.specs.Prelude.{◌≡◌, true, cond, ◌+◌, ◌*◌, ◌-◌, ◌≤◌, ◌<◌, length};
 ghost use Rattle.tables.specs.Tables.{links, cap, place_ok, places_ok, place_cost, costs, key_eq, key_new, keys_ok, allowed, settings_ok, link_ok, idle, link_at, used_of, tables_ok};
 ghost use Rattle.octets.specs.Tests.{all};

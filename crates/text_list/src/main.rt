@@ -1,4 +1,6 @@
 // Prints octets and numbers in each of the texts that records have. The file stdout holds what the Rust's formats print.
+#![tactic(auto)]
+
 use libc::STDOUT_FILENO;
 use octets::emit::put_octet;
 use octets::text::{put_0x, put_decimal, put_hex, put_hex_octet, put_hex_word};

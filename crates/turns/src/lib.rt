@@ -1,4 +1,6 @@
 // The turns of a link's units where a unit grows at its end: a piece is held, or ends the unit.
+#![tactic(auto)]
+
 ghost use Rattle.std.specs.Prelude.{◌≡◌, true, cond, [], ◌+◌, ◌*◌, ◌≤◌, ◌<◌, eqb, ltb, length, get_or, set};
 ghost use Rattle.octets.specs.Emit.{put};
 ghost use Rattle.tables.specs.Tables.{links, blocks_in, reserve, cap, units, word};

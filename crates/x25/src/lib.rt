@@ -1,4 +1,6 @@
 // X.25 packets as item records.
+#![tactic(auto)]
+
 ghost use Rattle.std.specs.Prelude.{◌≡◌, ◌+◌, eqb, length};
 ghost use Rattle.octets.specs.Text.{pick};
 ghost use Rattle.cells.specs.Answer.{Parsed, number_of};
