@@ -1,0 +1,6 @@
+use Rattle.cells.specs.Items.{leaf_cell, flat}
+use Rattle.cells.proofs.emit.put_hex_part.Goals as goal
+
+pub returns : goal.returns
+unfolding flat leaf_cell
+returns c = c.put_cell.ensures

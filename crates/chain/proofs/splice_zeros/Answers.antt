@@ -1,0 +1,25 @@
+use Prim.Native.Nat.{◌+◌, ◌-◌, ◌≤◌}
+use native.Mathlib.Omega.{arith}
+use lib.ListN.{length, replicate}
+use Rattle.chain.proofs.Home.{homed-chain}
+use Rattle.chain.proofs.Spliced.{now-spliced}
+use Rattle.chain.proofs.Zeros.{zeros_long}
+use Rattle.chain.proofs.splice_zeros.Goals as goal
+
+pub zero_at-requires : goal.zero_at-requires
+zero_at-requires c =
+    let a = c.args in
+    let pre = c.requires.k_bound in
+    let more = c.requires.b_in_bounds in
+    let fits : a.m + a.n - a.k ≤ length c.resize.new.list = omega (arith, pre, c.resize.auto.0) in
+    (omega (arith, pre), fits, homed-chain c.resize.new.home c.resize.new.list a.b (a.m + a.n - a.k) c.resize.ensures.k_after fits, more.0, omega (arith, pre, more))
+
+pub returns : goal.returns
+returns c =
+    let a = c.args in
+    let pre = c.requires.k_bound in
+    let more = c.requires.b_in_bounds in
+    let fits : a.m + a.n - a.k ≤ length c.resize.new.list = omega (arith, pre, c.resize.auto.0) in (
+      c.resize.ensures.k_after,
+      now-spliced a.home.now a.list.now c.resize.new.home c.resize.new.list a.blocks.now a.b a.m a.a a.k a.n pre.6 (omega (arith, pre)) more.0 pre.0 c.resize.ensures.k_after fits c.resize.ensures.resized c.zero_at.new.1.0 a.d (replicate a.z 0) more.1 (omega (arith, more, zeros_long a.z)) c.zero_at.ensures,
+    )

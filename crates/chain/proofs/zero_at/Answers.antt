@@ -1,0 +1,81 @@
+use Prim.Native.Nat.{ℕ, ◌+◌, ◌*◌, ◌/◌, ◌%◌, ◌≤◌, ◌<◌}
+use mathlib.Core.Path.{◌≡◌, refl, sym, ap, ◌∙◌}
+use mathlib.Core.Logic.{⊎_elim}
+use native.Mathlib.Omega.{arith}
+use lib.ListN.{length, get_or, take, replicate}
+use lib.Seq.{take_all, get_or-take, length-take-le}
+use Rattle.octets.specs.Emit.{put}
+use Rattle.chain.specs.Chain.{flat}
+use Rattle.octets.proofs.Put.{put_nil}
+use Rattle.chain.proofs.Flat.{write_more, run-below, run_take}
+use Rattle.chain.proofs.Zeros.{part_zeros, zeros_long}
+use Rattle.chain.proofs.zero_at.Goals as goal
+
+-- what a turn knows of its n octets, where n is settled
+turn : (c : tie.Joined1 invariant-loop decreases-loop)
+    → let at = c in let a = at.args in
+    let w = a.v + at.loop-done.done in
+    let r = c.run.result in
+    (0 < c.if-m-done.part) × (w % 64 + c.if-m-done.part ≤ 64 * r) × (at.loop-done.done + c.if-m-done.part ≤ a.m) × (w / 64 + r ≤ a.n) × (get_or a.list.now (w / 64) 0 + r ≤ a.b)
+turn c =
+    let at = c in let start = at in
+    let a = start.args in
+    let i = (a.v + at.loop-done.done) / 64 in
+    let run = c.run in
+    let l = take a.n a.list.now in
+    let ln : length l ≡ a.n = length-take-le a.n a.list.now (omega (arith, start.requires)) in
+    let hi : i + run.result ≤ a.n = omega (arith, start.requires, c, run.ensures) in
+    let x< : get_or a.list.now i 0 + run.result ≤ a.b = rw (get_or-take a.n a.list.now i 0 (omega (arith, run.ensures))) at (run-below a.b l i run.result start.requires.2 (omega (arith, run.ensures)) (omega arith) (run_take a.list.now a.n i run.result hi run.ensures.2)) in
+    ⊎_elim (λ w. omega (arith, start.requires, c, run.ensures)) (λ w. omega (arith, start.requires, c, run.ensures)) c.if-m-done.branch
+
+pub loop-done-init : goal.loop-done-init
+loop-done-init c = (omega arith, refl, sym (put_nil (flat c.args.blocks.now (take c.args.n c.args.list.now)) c.args.v))
+
+pub overflow_cast-x : goal.overflow_cast-x
+overflow_cast-x c = let at = c in omega (arith, c.shared_slice_known-in-loop-done-1.given ((at.args.v + at.loop-done.done) / 64))
+
+pub overflow_mul-x : goal.overflow_mul-x
+overflow_mul-x c = omega (arith, turn c)
+
+pub overflow_add-x : goal.overflow_add-x
+overflow_add-x c = omega (arith, turn c)
+
+pub zero-requires : goal.zero-requires
+zero-requires c = omega (arith, turn c)
+
+pub overflow_add-done : goal.overflow_add-done
+overflow_add-done c = omega (arith, turn c)
+
+pub loop-done-smaller : goal.loop-done-smaller
+loop-done-smaller c = omega (arith, turn c)
+
+pub loop-done-preserved : goal.loop-done-preserved
+loop-done-preserved c =
+    let called = c in let joined = called in
+    let at = joined in
+    let run = joined.run in
+    let start = at in
+    let a = start.args in
+    let t = turn joined in
+    let z = zeros_long a.m in
+    let l = take a.n a.list.now in
+    let ln : length l ≡ a.n = length-take-le a.n a.list.now (omega (arith, start.requires)) in
+    let up = run_take a.list.now a.n ((a.v + at.loop-done.done) / 64) run.result (omega (arith, t)) run.ensures.2 in
+    let x= : get_or l ((a.v + at.loop-done.done) / 64) 0 ≡ get_or a.list.now ((a.v + at.loop-done.done) / 64) 0 = get_or-take a.n a.list.now ((a.v + at.loop-done.done) / 64) 0 (omega (arith, t, run.ensures)) in (
+      omega (arith, t),
+      called.zero.auto.0 ∙ at.loop-done.invariant.1,
+      write_more a.b a.blocks.now at.loop-done.blocks called.zero.new.dst l a.v (replicate a.m 0) at.loop-done.done joined.if-m-done.part run.result
+          (omega (arith, start.requires)) (omega (arith, start.requires, at.loop-done.invariant)) start.requires.2 (omega (arith, start.requires)) (omega (arith, t)) up (omega (arith, t)) (omega (arith, t))
+          at.loop-done.invariant.2 (rw x= (called.zero.ensures ∙ ap (put at.loop-done.blocks _) (sym (part_zeros a.m at.loop-done.done joined.if-m-done.part (omega (arith, t)))))),
+    )
+
+pub shape_of-blocks : goal.shape_of-blocks
+shape_of-blocks c = c.loop-done.invariant.1
+
+pub returns : goal.returns
+returns c =
+    let at = c in let a = at.args in
+    let all : at.loop-done.done ≡ a.m = omega arith in
+    at.loop-done.invariant.2
+    ∙ ap (λ (k : ℕ). put (flat a.blocks.now (take a.n a.list.now)) a.v (take k (replicate a.m 0))) all
+    ∙ ap (put (flat a.blocks.now (take a.n a.list.now)) a.v) (take_all a.m (replicate a.m 0) (omega (arith, zeros_long a.m)))

@@ -1,0 +1,22 @@
+use mathlib.Core.Path.{◌≡◌, refl, ◌∙◌}
+use mathlib.Core.Bool.{true}
+use Rattle.octets.specs.Tests.{all}
+use Rattle.names.specs.Texts.{texts, number_of}
+use Rattle.names.specs.Place.{place_from, same}
+use Rattle.codes.specs.Codes.{name_in, text_in, idrp_attributes}
+use Rattle.names.specs.Ascii.{octets}
+use Rattle.codes.proofs.Tables.{right, within, beyond}
+use borrow.Author.Rules.{rules}
+use Rattle.codes.proofs.idrp_attr_name.Goals as goal
+
+test : all (right idrp_attributes (octets "unknown") 142 0 17) 17 ≡ true
+unfolding idrp_attributes texts number_of place_from same name_in text_in all
+test = refl
+
+pub returns-then-c-lt17 : goal.returns-then-c-lt17
+unfolding idrp_attributes texts number_of place_from same name_in
+returns-then-c-lt17 c = c.lifted.ensures ∙ within idrp_attributes (octets "unknown") 142 0 17 c.args.c test (search rules)
+
+pub returns : goal.returns
+unfolding idrp_attributes texts number_of place_from same
+returns c = beyond idrp_attributes (octets "unknown") 142 0 17 c.args.c refl (search rules) refl
