@@ -7,7 +7,7 @@ use crate::cell::{
     value,
 };
 
-#[derive(Drop)]
+#[derive(Clone, Copy)]
 pub enum Class {
     Leafy,
     Object,

@@ -10,7 +10,7 @@ use native.Mathlib.Omega.{arith}
 use lib.Dec.{ltb, eqb}
 use lib.ListN.{length, get_or, take, drop, length-append, length-drop, take-append-drop}
 use lib.Seq.{split_at, take_at, drop_at, take-append-add, drop-append-add, take-append-le, drop-append-le, drop-drop, length-take-le, take-add, get_or-take}
-use borrow.Author.Tests.{ltb-true, ltb-false, eqb-false, ne_eqb, not_true}
+use borrow.Author.Tests.{ltb-true, ltb-false, eqb-false, ne_eqb, not-true}
 use Rattle.octets.specs.Emit.{put}
 use Rattle.octets.proofs.Tests.{and_left, and_right}
 use Rattle.chain.specs.Chain.{block, flat, fresh, chain_ok}
@@ -21,7 +21,7 @@ use Rattle.chain.proofs.Step.{Rises}
 
 fresh_not : (z : ℕ) (xs : List ℕ) (x : ℕ) (ys : List ℕ) → fresh z (xs ++ x ∷ ys) ≡ true → eqb z x ≡ false
 unfolding fresh
-fresh_not z [] x ys h = not_true (eqb z x) (and_left (not (eqb z x)) (fresh z ys) h)
+fresh_not z [] x ys h = not-true (eqb z x) (and_left (not (eqb z x)) (fresh z ys) h)
 fresh_not z (w ∷ ws) x ys h = fresh_not z ws x ys (and_right (not (eqb z w)) (fresh z (ws ++ x ∷ ys)) h)
 
 pub low : (b : ℕ) (xs : List ℕ) (x : ℕ) (ys : List ℕ) → chain_ok b (xs ++ x ∷ ys) ≡ true → x < b
@@ -161,7 +161,7 @@ module _ (bs : List ℕ) (x k : ℕ) (s : List ℕ) (inside : 64 * x + 64 ≤ le
   unfolding flat fresh
   flat-other [] h = refl
   flat-other (y ∷ ys) h =
-      let apart : eqb x y ≡ false = not_true (eqb x y) (and_left (not (eqb x y)) (fresh x ys) h) in
+      let apart : eqb x y ≡ false = not-true (eqb x y) (and_left (not (eqb x y)) (fresh x ys) h) in
       rw (block-other y (λ e. eqb-false x y apart (sym e)), flat-other ys (and_right (not (eqb x y)) (fresh x ys) h))
 
 -- an entry of such a list is a block's number

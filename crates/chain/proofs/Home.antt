@@ -9,7 +9,7 @@ use native.Mathlib.Omega.{arith}
 use lib.Dec.{ltb, eqb}
 use lib.ListN.{length, get_or, set, take, drop, length-drop, length-take}
 use lib.Seq.{split_at, get_or-take, get_or-drop, get_or-set_same, get_or-set_other, length-take-le}
-use borrow.Author.Tests.{ltb-true, lt-ltb, le-ltb, eqb-true, eqb-false, eq-eqb, ne_eqb, not_true}
+use borrow.Author.Tests.{ltb-true, lt-ltb, le-ltb, eqb-true, eqb-false, eq-eqb, ne_eqb, not-true}
 use Rattle.octets.specs.Tests.{all}
 use Rattle.chain.specs.Chain.{fresh, chain_ok, home_at, homed, in_use_at}
 use Rattle.octets.proofs.Tests.{all-at, all_of, and_left, and_right}
@@ -64,7 +64,7 @@ homed-chain home list b n ok h =
 fresh_at : (x : ℕ) (l : List ℕ) (k : ℕ) → fresh x l ≡ true → k < length l → get_or l k 0 ≡ x → ⊥
 unfolding fresh
 fresh_at x [] k f h e = omega arith
-fresh_at x (y ∷ ys) zero f h e = eqb-false x y (not_true (eqb x y) (and_left (not (eqb x y)) (fresh x ys) f)) (sym e)
+fresh_at x (y ∷ ys) zero f h e = eqb-false x y (not-true (eqb x y) (and_left (not (eqb x y)) (fresh x ys) f)) (sym e)
 fresh_at x (y ∷ ys) (suc k) f h e = fresh_at x ys k (and_right (not (eqb x y)) (fresh x ys) f) (omega arith) e
 
 pub apart : (b : ℕ) (l : List ℕ) (i j : ℕ) → chain_ok b l ≡ true → i < j → j < length l → get_or l j 0 ≡ get_or l i 0 → ⊥

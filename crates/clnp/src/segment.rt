@@ -5,7 +5,7 @@ ghost use Rattle.clnp.specs.Segment.{headed as headedOf, sp, more, behind as beh
 
 use octets::read::{u16_of, wide};
 
-#[derive(Drop)]
+#[derive(Clone, Copy)]
 pub enum Segment {
     Absent,
     Fields {
@@ -17,7 +17,7 @@ pub enum Segment {
     },
 }
 
-#[derive(Drop)]
+#[derive(Clone, Copy)]
 pub enum Addresses {
     Absent,
     Two {
@@ -28,7 +28,7 @@ pub enum Addresses {
     },
 }
 
-#[derive(Drop)]
+#[derive(Clone, Copy)]
 pub enum Tpdu {
     Absent,
     From(usize),

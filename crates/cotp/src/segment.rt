@@ -9,7 +9,7 @@ use crate::tpdu::{by_format, seq};
 use octets::read::{u16_of, wide};
 
 // The end mark is 1 or 0; the user data begin at place user.
-#[derive(Drop)]
+#[derive(Clone, Copy)]
 pub enum Segment {
     Absent,
     Piece {

@@ -7,7 +7,7 @@ use names::text::{AK, CC, CR, DC, DR, DT, EA, ED, ER, RJ};
 use octets::read::{u32_of, wide};
 
 // The name is a text number, 0 where the octets are not readable; the fixed part ends where the parameters begin.
-#[derive(Drop)]
+#[derive(Clone, Copy)]
 pub struct Head {
     pub li: usize,
     pub name: u32,

@@ -4,7 +4,7 @@ use mathlib.Core.Path.{◌≡◌, refl, sym, ap, ◌∙◌}
 use mathlib.Core.List.{List}
 use mathlib.Core.Bool.{Bool, true, false, not}
 use native.Mathlib.Omega.{arith}
-use borrow.Author.Tests.{lt-ltb, le-ltb, leb-true, ltb-true, not_true, not_false}
+use borrow.Author.Tests.{lt-ltb, le-ltb, leb-true, ltb-true, not-true, not-false}
 use lib.Dec.{ltb, leb}
 use lib.ListN.{length, get_or}
 use Rattle.octets.specs.Text.{pick}
@@ -16,10 +16,10 @@ use Rattle.esis.specs.Pdu.{address_ok, address_items, address_end}
 
 -- a test of a function's answer, turned round
 pub off : {b x : Bool} → b ≡ x → not b ≡ true → x ≡ false
-off {b} e h = sym e ∙ not_true b h
+off {b} e h = sym e ∙ not-true b h
 
 pub on : {b x : Bool} → b ≡ x → not b ≡ false → x ≡ true
-on {b} e h = sym e ∙ not_false b h
+on {b} e h = sym e ∙ not-false b h
 
 module _ (s : List ℕ) where
   abbrev pub behind : ℕ → ℕ

@@ -7,7 +7,7 @@ use native.Mathlib.Omega.{arith}
 use lib.Dec.{ltb}
 use lib.Ieee.{Float}
 use lib.ListN.{length, get_or, set}
-use borrow.Author.Tests.{eq-eqb, not_true, ltb-true, ltb-false, lt-ltb, le-ltb}
+use borrow.Author.Tests.{eq-eqb, not-true, ltb-true, ltb-false, lt-ltb, le-ltb}
 use Rattle.octets.proofs.Tests.{all-at, all_of, no_true}
 use Rattle.tables.specs.Tables.{links, blocks_in, reserve, cap, count, units, word, word_eq, key_eq, key_new, excess_of}
 use Rattle.pool.specs.View.{Unit, tab, pend, sound, refusal}
@@ -44,7 +44,7 @@ module _ (w : List ℕ) (tm : List Float) (list home bs : List ℕ) (g : Good w 
             all_of (word_eq w (8 * l + j) (8 * l + i)) 6 (λ q r. eq-eqb (word w (8 * l + j) q) (word w (8 * l + i) q)
             (sym (sym (get_or-tab (word w (8 * l + i)) 6 q 0 r) ∙ ap (λ (x : List ℕ). get_or x q 0) e ∙ get_or-tab (word w (8 * l + j)) 6 q 0 r))) in
             let no : key_eq w (8 * l + j) (8 * l + i) ≡ false =
-            not_true (key_eq w (8 * l + j) (8 * l + i)) (all-at (λ x. not (key_eq w (8 * l + j) (8 * l + x))) i j (all-at (key_new w (8 * l)) j (units w l) (own w l g.tab hl).apart k) h) in
+            not-true (key_eq w (8 * l + j) (8 * l + i)) (all-at (λ x. not (key_eq w (8 * l + j) (8 * l + x))) i j (all-at (key_new w (8 * l)) j (units w l) (own w l g.tab hl).apart k) h) in
             no_true (sym no ∙ same)
 
   common-is : excesses (reserve w) (pend w tm list bs) ≡ excess_of w (links w)

@@ -6,7 +6,7 @@ ghost use Rattle.tables.specs.Tables.{word};
 ghost use Rattle.pool.specs.View.{tab};
 
 // Body and top are lengths in octets.
-#[derive(Drop)]
+#[derive(Clone, Copy)]
 pub struct Place {
     pub key: [u64; 6],
     pub note: u64,

@@ -8,7 +8,7 @@ use cells::class::{Class, class_of};
 use octets::emit::put_octet;
 
 // A group was printed, and the cells go on at the first place, the text at the second; or its cells are not well formed.
-#[derive(Drop)]
+#[derive(Clone, Copy)]
 pub enum Step {
     Printed(usize, usize),
     Refused,

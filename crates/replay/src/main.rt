@@ -9,7 +9,7 @@ use replay_line::word::find;
 use reply::reply;
 
 // Between two reads: the octets of the line so far, the lines before it, and whether all that was said could be written.
-#[derive(Drop)]
+#[derive(Clone, Copy)]
 struct State {
     size: usize,
     lines: u64,

@@ -8,7 +8,7 @@ ghost use Rattle.replay_line.specs.declared.line.Line.TheVariants.{X25, Network}
 use crate::word::{Number, find, is_packet, number_in, packet_len, put_packet};
 
 // Whose push it is.
-#[derive(Drop)]
+#[derive(Clone, Copy)]
 pub enum Store {
     X25,
     Clnp,
@@ -16,7 +16,7 @@ pub enum Store {
 }
 
 // Times are in seconds; size octets of a packet come with a push.
-#[derive(Drop)]
+#[derive(Clone, Copy)]
 pub enum Order {
     Push {
         store: Store,
@@ -34,7 +34,7 @@ pub enum Order {
 }
 
 // P and N carry a packet of so many octets.
-#[derive(Drop)]
+#[derive(Clone, Copy)]
 pub enum Line {
     Bad,
     X25(usize),

@@ -6,7 +6,7 @@ ghost use Rattle.replay_line.specs.Word.{up_to, is_digit, value_of, number_in, d
 
 use octets::emit::put_octet;
 
-#[derive(Drop)]
+#[derive(Clone, Copy)]
 pub enum Number {
     Absent,
     Value(u32),

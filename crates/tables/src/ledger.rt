@@ -3,7 +3,7 @@ ghost use Rattle.std.specs.Prelude.{◌≡◌, true, ℕ, ◌+◌, ◌-◌, ◌�
 ghost use Rattle.octets.specs.Tests.{all};
 ghost use Rattle.tables.specs.Tables.{links, settings_ok, link_at, used_of, counts, total, over};
 
-#[derive(Drop)]
+#[derive(Clone, Copy)]
 pub struct Ledger {
     pub counts: [u64; 16],
 }

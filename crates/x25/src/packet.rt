@@ -12,14 +12,14 @@ use names::text::{
 use octets::read::{u16_of, wide};
 
 // An octet that a packet may lack.
-#[derive(Drop)]
+#[derive(Clone, Copy)]
 pub enum Octet {
     Nothing,
     Is(u8),
 }
 
 // The kind and the two texts are text numbers, 0 for none; the facilities and the payload are places of the input.
-#[derive(Drop)]
+#[derive(Clone, Copy)]
 pub struct Packet {
     pub kind: u32,
     pub lcn: u16,

@@ -11,7 +11,7 @@ use names::text::{ACA, DEFLATE, LREF, LREF_CAN};
 use octets::read::wide;
 
 // The field of a call request: its compression octet and the place behind it.
-#[derive(Drop)]
+#[derive(Clone, Copy)]
 pub enum Field {
     Absent,
     Found { octet: u8, end: usize },

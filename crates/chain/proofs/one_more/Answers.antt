@@ -3,7 +3,7 @@ use mathlib.Core.Path.{◌≡◌, refl, sym, ap, ◌∙◌}
 use mathlib.Core.Bool.{true}
 use mathlib.Core.List.{List}
 use native.Mathlib.Omega.{arith}
-use borrow.Author.Tests.{not_true, not_false}
+use borrow.Author.Tests.{not-true, not-false}
 use lib.ListN.{length, get_or, set, take, length-set}
 use lib.Seq.{set-get_or, take-set-le}
 use Rattle.chain.specs.Chain.{homed}
@@ -22,7 +22,7 @@ returns-then-not-in_use c =
     let l = a.list.now in
     let h = a.home.now in
     let x = get_or l a.n 0 in
-    let f = free h l a.b a.n x c.requires.4 (sym c.in_use.ensures ∙ not_true _ c.if-not-in_use.true) in
+    let f = free h l a.b a.n x c.requires.4 (sym c.in_use.ensures ∙ not-true _ c.if-not-in_use.true) in
     let t : homed (set h x a.n) (set l a.n x) a.b (a.n + 1) ≡ true = took h l a.b a.n x c.requires.4 (omega arith) (omega arith) (omega arith) f in
     (refl, ap (λ (k : List ℕ). homed (set h x a.n) k a.b (a.n + 1)) (sym (set-get_or l a.n 0)) ∙ t)
 
@@ -51,13 +51,13 @@ returns-then-not-in_use-2 c =
     let h = c.loop-x.home in
     let x = c.loop-x.x in
     let ok : homed h l a.b a.n ≡ true = rw (c.loop-x.invariant.0, c.loop-x.invariant.1) c.requires.4 in
-    let f = free h l a.b a.n x ok (sym c.in_use-in-loop-x.ensures ∙ not_true _ c.if-not-in_use-2.true) in
+    let f = free h l a.b a.n x ok (sym c.in_use-in-loop-x.ensures ∙ not-true _ c.if-not-in_use-2.true) in
     (take-set-le a.n l a.n x (omega arith) ∙ ap (take a.n) c.loop-x.invariant.0, took h l a.b a.n x ok (omega (arith, here c)) (omega arith) (omega (arith, here c)) f)
 
 pub loop-x-preserved : goal.loop-x-preserved
 loop-x-preserved c =
     let a = c.args in
-    (c.loop-x.invariant.0, c.loop-x.invariant.1, omega arith, used_one c.loop-x.home c.loop-x.list a.n c.loop-x.x (sym c.in_use-in-loop-x.ensures ∙ not_false _ c.if-not-in_use-2.false) (omega (arith, here c)) c.loop-x.invariant.3)
+    (c.loop-x.invariant.0, c.loop-x.invariant.1, omega arith, used_one c.loop-x.home c.loop-x.list a.n c.loop-x.x (sym c.in_use-in-loop-x.ensures ∙ not-false _ c.if-not-in_use-2.false) (omega (arith, here c)) c.loop-x.invariant.3)
 
 pub shape_of-list : goal.shape_of-list
 shape_of-list c = (here c).0

@@ -1,6 +1,6 @@
 use mathlib.Core.Path.{sym, ap}
 use native.Mathlib.Omega.{arith}
-use borrow.Author.Tests.{not_true, not_false}
+use borrow.Author.Tests.{not-true, not-false}
 use lib.ListN.{length}
 use Rattle.pool.specs.View.{Unit}
 use Rattle.pool.proofs.Good.{Good, good}
@@ -17,7 +17,7 @@ nr : (c : tie.Start) → Near c.args.words.now c.args.l c.args.j
 nr c = near c.args.words.now c.args.l c.args.j (gd c).tab c.requires.1.0 c.requires.1.1
 
 returns : tie.Need-returns
-returns c = (simp (not_true c.before.args.keep c.if1.true), omega arith)
+returns c = (simp (not-true c.before.args.keep c.if1.true), omega arith)
 
 add-if2 : tie.Need-overflow-add-if2
 add-if2 c = omega (arith, nr c.before)
@@ -32,7 +32,7 @@ returns-2 : tie.Need-returns-2
 returns-2 c =
     let a = c.before.before.before.args in
     let e = past a.words.now a.times.now a.list.now a.blocks.now a.l a.j c.before.before.before.requires.1.0 c.if2.true in
-    (simp (not_false a.keep c.before.before.if1.false) (sym (ap (λ (u : Unit). length u.body) e)), omega arith)
+    (simp (not-false a.keep c.before.before.if1.false) (sym (ap (λ (u : Unit). length u.body) e)), omega arith)
 
 mul-result : tie.Need-overflow-mul-result
 mul-result c = omega (arith, nr c.before.before.before, c.before.before.before.requires.1)
@@ -61,7 +61,7 @@ returns-3 c =
     let a = s.args in
     let p = s.requires.1 in
     let long = part-long a.words.now a.times.now a.list.now a.home.now a.blocks.now a.l a.j 0 (gd s) p.0 c.before.if2.false (omega arith) in
-    (simp (not_false a.keep c.before.before.before.if1.false) (sym long), (sizes a.words.now a.l a.j (gd s).tab p.0 c.before.if2.false).body)
+    (simp (not-false a.keep c.before.before.before.if1.false) (sym long), (sizes a.words.now a.l a.j (gd s).tab p.0 c.before.if2.false).body)
 
 pub kept-spec : {M : Type 1} → statement M
 kept-spec =

@@ -4,7 +4,7 @@ use Rattle.octets.proofs.Tests.{all_none, all_more, all-fails}
 use Rattle.octets.specs.Tests.{all}
 use lib.ListN.{length, get_or}
 use borrow.Author.Rules.{rules}
-use borrow.Author.Tests.{not_true, not_false}
+use borrow.Author.Tests.{not-true, not-false}
 use native.Mathlib.Omega.{arith}
 use mathlib.Core.Bool.{true}
 use mathlib.Core.Path.{◌≡◌, sym, ap, ◌∙◌}
@@ -29,7 +29,7 @@ is-digit-requires c κs = search rules
 returns : tie.Need-returns invariant-loop decreases-loop
 returns c =
     let w = c.before.before.before.before.before.before.args.w.now in
-    sym (all-fails (λ i. is_digit (get_or w i 0)) c.before.before.before.before.loop.i (length w) c.before.before.before.loop-test.true (sym c.before.is_digit.ensures ∙ not_true _ c.if1.true))
+    sym (all-fails (λ i. is_digit (get_or w i 0)) c.before.before.before.before.loop.i (length w) c.before.before.before.loop-test.true (sym c.before.is_digit.ensures ∙ not-true _ c.if1.true))
 
 add-i : tie.Need-overflow-add-i invariant-loop decreases-loop
 add-i c = omega arith
@@ -40,7 +40,7 @@ loop-less c = omega arith
 loop-again : tie.Need-loop-preserved invariant-loop decreases-loop
 loop-again c =
     let w = c.before.before.before.before.before.before.args.w.now in
-    (omega arith, all_more (λ i. is_digit (get_or w i 0)) c.before.before.before.before.loop.i c.before.before.before.before.loop.invariant.1 (sym c.before.is_digit.ensures ∙ not_false _ c.if1.false))
+    (omega arith, all_more (λ i. is_digit (get_or w i 0)) c.before.before.before.before.loop.i c.before.before.before.before.loop.invariant.1 (sym c.before.is_digit.ensures ∙ not-false _ c.if1.false))
 
 returns-2 : tie.Need-returns-2 invariant-loop decreases-loop
 returns-2 c =
