@@ -1,7 +1,6 @@
 use Prim.Native.Nat.{◌+◌, ◌-◌}
 use mathlib.Core.Path.{refl, sym, ◌∙◌}
 use native.Mathlib.Omega.{arith}
-use borrow.Author.Tests.{not-true, not-false}
 use Rattle.chain.specs.Chain.{home_at}
 use Rattle.octets.proofs.Tests.{all_none}
 use Rattle.chain.proofs.Step.{all_join, all-cut}
@@ -25,13 +24,13 @@ pub returns-then-not-stretch_ok : goal.returns-then-not-stretch_ok
 returns-then-not-stretch_ok c =
     let a = c.args in
     let p = home_at a.home.now a.list.now a.b in
-    sym (all-cut p (c.loop-i.i + 64) a.n (omega arith) (sym (all_join p c.loop-i.i 64 (c.loop-i.i + 64) c.loop-i.invariant.1 refl) ∙ sym c.stretch_ok.ensures ∙ not-true _ c.if-not-stretch_ok.true))
+    sym (all-cut p (c.loop-i.i + 64) a.n (omega arith) (sym (all_join p c.loop-i.i 64 (c.loop-i.i + 64) c.loop-i.invariant.1 refl) ∙ sym c.stretch_ok.ensures ∙ c.if-not-stretch_ok.true))
 
 pub loop-i-preserved : goal.loop-i-preserved
 loop-i-preserved c =
     let a = c.args in
     let p = home_at a.home.now a.list.now a.b in
-    (omega arith, sym (all_join p c.loop-i.i 64 (c.loop-i.i + 64) c.loop-i.invariant.1 refl) ∙ sym c.stretch_ok.ensures ∙ not-false _ c.if-not-stretch_ok.false)
+    (omega arith, sym (all_join p c.loop-i.i 64 (c.loop-i.i + 64) c.loop-i.invariant.1 refl) ∙ sym c.stretch_ok.ensures ∙ c.if-not-stretch_ok.false)
 
 pub rest_ok-requires : goal.rest_ok-requires
 rest_ok-requires c = (omega arith, omega arith, omega arith, omega arith)

@@ -8,10 +8,11 @@ use Rattle.octets.specs.Emit.{put}
 use Rattle.chain.specs.Chain.{flat}
 use Rattle.octets.proofs.Put.{put_nil}
 use Rattle.chain.proofs.Flat.{read_more, run-below, run_take}
+use Rattle.chain.proofs.read_at.Goals.{Joined-m-done}
 use Rattle.chain.proofs.read_at.Goals as goal
 
 -- what a turn knows of its m octets, where m is settled
-turn : (c : tie.Joined1 invariant-loop decreases-loop)
+turn : (c : Joined-m-done)
     → let at = c in let a = at.args in
     let w = a.v + at.loop-done.done in
     let r = c.run.result in
@@ -34,22 +35,22 @@ pub overflow_cast-x : goal.overflow_cast-x
 overflow_cast-x c = let at = c in omega (arith, c.shared_slice_known-in-loop-done-1.given ((at.args.v + at.loop-done.done) / 64))
 
 pub overflow_add-at : goal.overflow_add-at
-overflow_add-at c = omega (arith, turn c)
+overflow_add-at c = omega (arith, turn (goal.at.overflow_add-at c).Joined-m-done)
 
 pub overflow_mul-x : goal.overflow_mul-x
-overflow_mul-x c = omega (arith, turn c)
+overflow_mul-x c = omega (arith, turn (goal.at.overflow_mul-x c).Joined-m-done)
 
 pub overflow_add-x : goal.overflow_add-x
-overflow_add-x c = omega (arith, turn c)
+overflow_add-x c = omega (arith, turn (goal.at.overflow_add-x c).Joined-m-done)
 
 pub copy-requires : goal.copy-requires
-copy-requires c = omega (arith, turn c)
+copy-requires c = omega (arith, turn (goal.at.copy-requires c).Joined-m-done)
 
 pub overflow_add-done : goal.overflow_add-done
-overflow_add-done c = omega (arith, turn c)
+overflow_add-done c = omega (arith, turn (goal.at.overflow_add-done c).Joined-m-done)
 
 pub loop-done-smaller : goal.loop-done-smaller
-loop-done-smaller c = omega (arith, turn c)
+loop-done-smaller c = omega (arith, turn (goal.at.loop-done-smaller c).Joined-m-done)
 
 pub loop-done-preserved : goal.loop-done-preserved
 loop-done-preserved c =
@@ -58,7 +59,7 @@ loop-done-preserved c =
     let run = joined.run in
     let start = at in
     let a = start.args in
-    let t = turn joined in
+    let t = turn (goal.at.loop-done-preserved c).Joined-m-done in
     let l = take a.n a.list.now in
     let ln : length l ≡ a.n = length-take-le a.n a.list.now (omega (arith, start.requires)) in
     let up = run_take a.list.now a.n ((a.v + at.loop-done.done) / 64) run.result (omega (arith, t)) run.ensures.2 in

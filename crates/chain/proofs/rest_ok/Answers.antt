@@ -1,7 +1,6 @@
 use Prim.Native.Nat.{◌+◌, ◌-◌}
 use mathlib.Core.Path.{sym, ◌∙◌}
 use native.Mathlib.Omega.{arith}
-use borrow.Author.Tests.{not-true, not-false}
 use Rattle.chain.specs.Chain.{home_at}
 use Rattle.chain.proofs.Step.{rest_join, all-cut}
 use Rattle.chain.proofs.rest_ok.Goals as goal
@@ -9,9 +8,9 @@ use Rattle.chain.proofs.rest_ok.Goals as goal
 pub returns-then-not-stretch_ok : goal.returns-then-not-stretch_ok
 returns-then-not-stretch_ok c =
     let a = c.args in
-    sym (all-cut (λ t. home_at a.home.now a.list.now a.b (a.i + t)) 32 a.m (omega arith) (sym c.stretch_ok.ensures ∙ not-true _ c.if-not-stretch_ok.true))
+    sym (all-cut (λ t. home_at a.home.now a.list.now a.b (a.i + t)) 32 a.m (omega arith) (sym c.stretch_ok.ensures ∙ c.if-not-stretch_ok.true))
 
 pub returns : goal.returns
 returns c =
     let a = c.args in
-    c.each_ok-2.ensures ∙ rest_join (home_at a.home.now a.list.now a.b) a.i 32 (a.m - 32) a.m (omega arith) (sym c.stretch_ok.ensures ∙ not-false _ c.if-not-stretch_ok.false)
+    c.each_ok-2.ensures ∙ rest_join (home_at a.home.now a.list.now a.b) a.i 32 (a.m - 32) a.m (omega arith) (sym c.stretch_ok.ensures ∙ c.if-not-stretch_ok.false)

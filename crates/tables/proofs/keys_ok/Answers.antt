@@ -1,6 +1,5 @@
 use mathlib.Core.Path.{sym, ◌∙◌}
 use native.Mathlib.Omega.{arith}
-use borrow.Author.Tests.{not-true, not-false}
 use Rattle.tables.specs.Tables.{key_new}
 use Rattle.octets.proofs.Tests.{all_none, all_more, all-fails, all-at, all_of}
 use Rattle.tables.proofs.keys_ok.Goals as goal
@@ -14,14 +13,14 @@ pub returns-then-not-key_new : goal.returns-then-not-key_new
 returns-then-not-key_new c =
     let at = c in let a = at.args in
     sym (all-fails (key_new a.words.now a.p) at.loop-i.i a.u (omega arith)
-    (sym c.key_new.ensures ∙ not-true _ c.if-not-key_new.true))
+    (sym c.key_new.ensures ∙ c.if-not-key_new.true))
 
 pub loop-i-preserved : goal.loop-i-preserved
 loop-i-preserved c =
     let at = c in let a = at.args in (
       omega arith,
       all_more (key_new a.words.now a.p) at.loop-i.i at.loop-i.invariant.1
-          (sym c.key_new.ensures ∙ not-false _ c.if-not-key_new.false),
+          (sym c.key_new.ensures ∙ c.if-not-key_new.false),
     )
 
 pub returns : goal.returns

@@ -1,7 +1,6 @@
 use Prim.Native.Nat.{ℕ, ◌+◌, ◌-◌}
 use mathlib.Core.Path.{◌≡◌, sym, ap, ◌∙◌}
 use native.Mathlib.Omega.{arith}
-use borrow.Author.Tests.{not-true, not-false}
 use Rattle.octets.specs.Tests.{all}
 use Rattle.octets.proofs.Tests.{all_none, all_more, all-fails}
 use Rattle.tables.specs.Tables.{idle}
@@ -21,7 +20,7 @@ returns-then-not-four_idle c =
     let w = c.args.words.now in
     let n = c.args.n in
     let l = c.loop-l.l in
-    sym (all-part (λ i. idle w (n + i)) (λ i. idle w (l + i)) (l - n) 4 (λ i h. ap (idle w) (omega arith)) (16 - n) (omega arith) (sym c.four_idle.ensures ∙ not-true _ c.if-not-four_idle.true))
+    sym (all-part (λ i. idle w (n + i)) (λ i. idle w (l + i)) (l - n) 4 (λ i h. ap (idle w) (omega arith)) (16 - n) (omega arith) (sym c.four_idle.ensures ∙ c.if-not-four_idle.true))
 
 pub loop-l-preserved : goal.loop-l-preserved
 loop-l-preserved c =
@@ -29,7 +28,7 @@ loop-l-preserved c =
     let n = c.args.n in
     let l = c.loop-l.l in
     let y : l + 4 - n ≡ l - n + 4 = omega arith in
-    (omega arith, omega arith, ap (all (λ i. idle w (n + i))) y ∙ all_join (λ i. idle w (n + i)) (λ i. idle w (l + i)) (l - n) 4 (λ i h. ap (idle w) (omega arith)) c.loop-l.invariant.2 (sym c.four_idle.ensures ∙ not-false _ c.if-not-four_idle.false))
+    (omega arith, omega arith, ap (all (λ i. idle w (n + i))) y ∙ all_join (λ i. idle w (n + i)) (λ i. idle w (l + i)) (l - n) 4 (λ i h. ap (idle w) (omega arith)) c.loop-l.invariant.2 (sym c.four_idle.ensures ∙ c.if-not-four_idle.false))
 
 pub loop-l-2-init : goal.loop-l-2-init
 loop-l-2-init c = c.loop-l.invariant

@@ -19,55 +19,54 @@ pub loop-i-init : goal.loop-i-init
 loop-i-init t c = (search rules, search rules, row-start _ _ _ _ _ _ _ (search rules) (search rules))
 
 pub returns-in-Bad : goal.returns-in-Bad
-returns-in-Bad t c = row_bad c.loop-i.invariant.2 c.loop-i-test.true (sym c.class_of-class.ensures ∙ c.enum_told-1.given.1)
+returns-in-Bad t c = row_bad c.loop-i.invariant.2 c.loop-i-test.true (sym c.class_of-class.ensures ∙ c.in-Bad.is)
 
 pub returns-in-Close : goal.returns-in-Close
 returns-in-Close t c =
-    row-close c.loop-i.invariant.2 c.loop-i.invariant.0 c.loop-i-test.true (sym c.class_of-class.ensures ∙ c.enum_told-in-Close-1.given.1) c.put_octet.ensures
+    row-close c.loop-i.invariant.2 c.loop-i.invariant.0 c.loop-i-test.true (sym c.class_of-class.ensures ∙ c.in-Close.is) c.put_octet.ensures
 
 pub put_member-next-requires : goal.put_member-next-requires
-put_member-next-requires t c = (class-leaf _ false _ _ (sym c.class_of-class.ensures ∙ c.enum_told-in-Leafy-1.given.1)).2
+put_member-next-requires t c = (class-leaf _ false _ _ (sym c.class_of-class.ensures ∙ c.in-Leafy.is)).2
 
 pub overflow_add-depth : goal.overflow_add-depth
-overflow_add-depth t c = let w = open_low _ false _ _ true (sym c.class_of-class.ensures ∙ c.enum_told-in-Object-1.given.1) in omega (arith, w)
+overflow_add-depth t c = let w = open_low _ false _ _ true (sym c.class_of-class.ensures ∙ c.in-Object.is) in omega (arith, w)
 
 pub object-requires : goal.object-requires
 object-requires t c = (omega (arith, c.requires.0, c.loop-i.invariant.0, c.loop-i-test.true), tt)
 
 pub returns-in_default : goal.returns-in_default
 returns-in_default t c =
-    row_broken c.loop-i.invariant.2 true c.loop-i-test.true (sym c.class_of-class.ensures ∙ c.enum_told-in-Object-1.given.1) (rw c.enum_told-in_default-1.given.1 at c.object.ensures)
+    row_broken c.loop-i.invariant.2 true c.loop-i-test.true (sym c.class_of-class.ensures ∙ c.in-Object.is) (rw c.in_default.is at c.object.ensures)
 
 pub overflow_add-depth-in-Entries : goal.overflow_add-depth-in-Entries
-overflow_add-depth-in-Entries t c =
-    let w = open_low _ false _ _ false (sym c.class_of-class.ensures ∙ c.enum_told-in-Entries-1.given.1) in omega (arith, w)
+overflow_add-depth-in-Entries t c = let w = open_low _ false _ _ false (sym c.class_of-class.ensures ∙ c.in-Entries.is) in omega (arith, w)
 
 pub list-requires : goal.list-requires
 list-requires t c = (omega (arith, c.requires.0, c.loop-i.invariant.0, c.loop-i-test.true), tt)
 
 pub returns-in_default-list : goal.returns-in_default-list
 returns-in_default-list t c =
-    row_broken c.loop-i.invariant.2 false c.loop-i-test.true (sym c.class_of-class.ensures ∙ c.enum_told-in-Entries-1.given.1) (rw c.enum_told-in_default-list-1.given.1 at c.list.ensures)
+    row_broken c.loop-i.invariant.2 false c.loop-i-test.true (sym c.class_of-class.ensures ∙ c.in-Entries.is) (rw c.in_default-list.is at c.list.ensures)
 
 pub loop-i-preserved-in-Leafy : goal.loop-i-preserved-in-Leafy
 loop-i-preserved-in-Leafy t c =
-    (search rules, search rules, row-leaf c.loop-i.invariant.2 c.loop-i-test.true (sym c.class_of-class.ensures ∙ c.enum_told-in-Leafy-1.given.1) c.put_member-next.ensures)
+    (search rules, search rules, row-leaf c.loop-i.invariant.2 c.loop-i-test.true (sym c.class_of-class.ensures ∙ c.in-Leafy.is) c.put_member-next.ensures)
 
 pub loop-i-smaller-in-Printed : goal.loop-i-smaller-in-Printed
-loop-i-smaller-in-Printed t c = let s = rw c.j-1.given.1 at c.object.ensures in omega (arith, s.after, s.within)
+loop-i-smaller-in-Printed t c = let s = rw c.in-Printed.is at c.object.ensures in omega (arith, s.after, s.within)
 
 pub loop-i-preserved-in-Printed : goal.loop-i-preserved-in-Printed
 loop-i-preserved-in-Printed t c =
-    let s = rw c.j-1.given.1 at c.object.ensures in
-    (omega (arith, s.after, c.loop-i.invariant.0), search rules, row-group c.loop-i.invariant.2 true c.loop-i-test.true (sym c.class_of-class.ensures ∙ c.enum_told-in-Object-1.given.1) c.put_open-begun.ensures s)
+    let s = rw c.in-Printed.is at c.object.ensures in
+    (omega (arith, s.after, c.loop-i.invariant.0), search rules, row-group c.loop-i.invariant.2 true c.loop-i-test.true (sym c.class_of-class.ensures ∙ c.in-Object.is) c.put_open-begun.ensures s)
 
 pub loop-i-smaller : goal.loop-i-smaller
-loop-i-smaller t c = let s = rw c.j-in-Printed-list-1.given.1 at c.list.ensures in omega (arith, s.after, s.within)
+loop-i-smaller t c = let s = rw c.in-Printed-list.is at c.list.ensures in omega (arith, s.after, s.within)
 
 pub loop-i-preserved : goal.loop-i-preserved
 loop-i-preserved t c =
-    let s = rw c.j-in-Printed-list-1.given.1 at c.list.ensures in
-    (omega (arith, s.after, c.loop-i.invariant.0), search rules, row-group c.loop-i.invariant.2 false c.loop-i-test.true (sym c.class_of-class.ensures ∙ c.enum_told-in-Entries-1.given.1) c.put_open-begun-in-Entries.ensures s)
+    let s = rw c.in-Printed-list.is at c.list.ensures in
+    (omega (arith, s.after, c.loop-i.invariant.0), search rules, row-group c.loop-i.invariant.2 false c.loop-i-test.true (sym c.class_of-class.ensures ∙ c.in-Entries.is) c.put_open-begun-in-Entries.ensures s)
 
 pub returns : goal.returns
 returns t c = row-end c.loop-i.invariant.2 c.loop-i-test.false
@@ -76,54 +75,54 @@ pub loop-i-init : goal.loop-i-init
 loop-i-init t c = (search rules, search rules, row-start _ _ _ _ _ _ _ (search rules) (search rules))
 
 pub returns-in-Bad : goal.returns-in-Bad
-returns-in-Bad t c = row_bad c.loop-i.invariant.2 c.loop-i-test.true (sym c.class_of-class.ensures ∙ c.enum_told-1.given.1)
+returns-in-Bad t c = row_bad c.loop-i.invariant.2 c.loop-i-test.true (sym c.class_of-class.ensures ∙ c.in-Bad.is)
 
 pub returns-in-Close : goal.returns-in-Close
 returns-in-Close t c =
-    row-close c.loop-i.invariant.2 c.loop-i.invariant.0 c.loop-i-test.true (sym c.class_of-class.ensures ∙ c.enum_told-in-Close-1.given.1) c.put_octet.ensures
+    row-close c.loop-i.invariant.2 c.loop-i.invariant.0 c.loop-i-test.true (sym c.class_of-class.ensures ∙ c.in-Close.is) c.put_octet.ensures
 
 pub put_member-next-requires : goal.put_member-next-requires
-put_member-next-requires t c = (class-leaf _ true _ _ (sym c.class_of-class.ensures ∙ c.enum_told-in-Leafy-1.given.1)).2
+put_member-next-requires t c = (class-leaf _ true _ _ (sym c.class_of-class.ensures ∙ c.in-Leafy.is)).2
 
 pub overflow_add-depth : goal.overflow_add-depth
-overflow_add-depth t c = let w = open_low _ true _ _ true (sym c.class_of-class.ensures ∙ c.enum_told-in-Object-1.given.1) in omega (arith, w)
+overflow_add-depth t c = let w = open_low _ true _ _ true (sym c.class_of-class.ensures ∙ c.in-Object.is) in omega (arith, w)
 
 pub object-requires : goal.object-requires
 object-requires t c = (omega (arith, c.requires.0, c.loop-i.invariant.0, c.loop-i-test.true), tt)
 
 pub returns-in_default : goal.returns-in_default
 returns-in_default t c =
-    row_broken c.loop-i.invariant.2 true c.loop-i-test.true (sym c.class_of-class.ensures ∙ c.enum_told-in-Object-1.given.1) (rw c.enum_told-in_default-1.given.1 at c.object.ensures)
+    row_broken c.loop-i.invariant.2 true c.loop-i-test.true (sym c.class_of-class.ensures ∙ c.in-Object.is) (rw c.in_default.is at c.object.ensures)
 
 pub overflow_add-depth-in-Entries : goal.overflow_add-depth-in-Entries
-overflow_add-depth-in-Entries t c = let w = open_low _ true _ _ false (sym c.class_of-class.ensures ∙ c.enum_told-in-Entries-1.given.1) in omega (arith, w)
+overflow_add-depth-in-Entries t c = let w = open_low _ true _ _ false (sym c.class_of-class.ensures ∙ c.in-Entries.is) in omega (arith, w)
 
 pub list-requires : goal.list-requires
 list-requires t c = (omega (arith, c.requires.0, c.loop-i.invariant.0, c.loop-i-test.true), tt)
 
 pub returns-in_default-list : goal.returns-in_default-list
 returns-in_default-list t c =
-    row_broken c.loop-i.invariant.2 false c.loop-i-test.true (sym c.class_of-class.ensures ∙ c.enum_told-in-Entries-1.given.1) (rw c.enum_told-in_default-list-1.given.1 at c.list.ensures)
+    row_broken c.loop-i.invariant.2 false c.loop-i-test.true (sym c.class_of-class.ensures ∙ c.in-Entries.is) (rw c.in_default-list.is at c.list.ensures)
 
 pub loop-i-preserved-in-Leafy : goal.loop-i-preserved-in-Leafy
 loop-i-preserved-in-Leafy t c =
-    (search rules, search rules, row-leaf c.loop-i.invariant.2 c.loop-i-test.true (sym c.class_of-class.ensures ∙ c.enum_told-in-Leafy-1.given.1) c.put_member-next.ensures)
+    (search rules, search rules, row-leaf c.loop-i.invariant.2 c.loop-i-test.true (sym c.class_of-class.ensures ∙ c.in-Leafy.is) c.put_member-next.ensures)
 
 pub loop-i-smaller-in-Printed : goal.loop-i-smaller-in-Printed
-loop-i-smaller-in-Printed t c = let s = rw c.j-1.given.1 at c.object.ensures in omega (arith, s.after, s.within)
+loop-i-smaller-in-Printed t c = let s = rw c.in-Printed.is at c.object.ensures in omega (arith, s.after, s.within)
 
 pub loop-i-preserved-in-Printed : goal.loop-i-preserved-in-Printed
 loop-i-preserved-in-Printed t c =
-    let s = rw c.j-1.given.1 at c.object.ensures in
-    (omega (arith, s.after, c.loop-i.invariant.0), search rules, row-group c.loop-i.invariant.2 true c.loop-i-test.true (sym c.class_of-class.ensures ∙ c.enum_told-in-Object-1.given.1) c.put_open-begun.ensures s)
+    let s = rw c.in-Printed.is at c.object.ensures in
+    (omega (arith, s.after, c.loop-i.invariant.0), search rules, row-group c.loop-i.invariant.2 true c.loop-i-test.true (sym c.class_of-class.ensures ∙ c.in-Object.is) c.put_open-begun.ensures s)
 
 pub loop-i-smaller : goal.loop-i-smaller
-loop-i-smaller t c = let s = rw c.j-in-Printed-list-1.given.1 at c.list.ensures in omega (arith, s.after, s.within)
+loop-i-smaller t c = let s = rw c.in-Printed-list.is at c.list.ensures in omega (arith, s.after, s.within)
 
 pub loop-i-preserved : goal.loop-i-preserved
 loop-i-preserved t c =
-    let s = rw c.j-in-Printed-list-1.given.1 at c.list.ensures in
-    (omega (arith, s.after, c.loop-i.invariant.0), search rules, row-group c.loop-i.invariant.2 false c.loop-i-test.true (sym c.class_of-class.ensures ∙ c.enum_told-in-Entries-1.given.1) c.put_open-begun-in-Entries.ensures s)
+    let s = rw c.in-Printed-list.is at c.list.ensures in
+    (omega (arith, s.after, c.loop-i.invariant.0), search rules, row-group c.loop-i.invariant.2 false c.loop-i-test.true (sym c.class_of-class.ensures ∙ c.in-Entries.is) c.put_open-begun-in-Entries.ensures s)
 
 pub returns : goal.returns
 returns t c = row-end c.loop-i.invariant.2 c.loop-i-test.false

@@ -10,11 +10,11 @@ returns-then-cells-root c = no_root _ _ (λ e. c.if-cells-root.true (e ∙ sym c
 
 pub returns-then-j-cells : goal.returns-then-j-cells
 returns-then-j-cells c =
-    all-cells (c.if-cells-root.false ∙ c.cell-root.ensures) (rw c.j-1.given.1 at c.object.ensures) c.if-j-cells.true c.put_octet-begun.ensures
+    all-cells (c.if-cells-root.false ∙ c.cell-root.ensures) (rw c.in-Printed.is at c.object.ensures) c.if-j-cells.true c.put_octet-begun.ensures
 
 pub returns-else-j-cells : goal.returns-else-j-cells
-returns-else-j-cells c = more-cells (c.if-cells-root.false ∙ c.cell-root.ensures) (rw c.j-1.given.1 at c.object.ensures) c.if-j-cells.false
+returns-else-j-cells c = more-cells (c.if-cells-root.false ∙ c.cell-root.ensures) (rw c.in-Printed.is at c.object.ensures) c.if-j-cells.false
 
 pub returns-in-Refused : goal.returns-in-Refused
 returns-in-Refused c =
-    root_broken c.args.cells.now c.args.input.now (c.if-cells-root.false ∙ c.cell-root.ensures) (rw c.enum_told-1.given.1 at c.object.ensures)
+    root_broken c.args.cells.now c.args.input.now (c.if-cells-root.false ∙ c.cell-root.ensures) (rw c.in-Refused.is at c.object.ensures)

@@ -1,0 +1,77 @@
+use Prim.Native.Nat.{◌+◌, ◌-◌}
+use mathlib.Core.Path.{◌≡◌, refl, sym, ◌∙◌, ap, subst}
+use mathlib.Core.List.{[], ◌++◌}
+use native.Mathlib.Omega.{arith}
+use lib.ListN.{length, get_or}
+use Rattle.octets.proofs.Emits.{onward, finish, same_size}
+use Rattle.cells.specs.Items.{flat}
+use Rattle.cells.specs.Walk.{step_of}
+use Rattle.cells.specs.declared.entry.Entry.TheVariants.{Stop, Body}
+use Rattle.cells.proofs.Walks.{turn, done, over, flat_walk}
+use Rattle.x25.specs.Facility.{fac_at, fac_step, facility, fac_left}
+use Rattle.x25.proofs.Facilities.{Within, fac_within, left_behind, left-stop, left-none}
+use borrow.Author.Rules.{rules}
+use Rattle.x25.proofs.facility.facilities.Goals.{After-loop-i, In-Body, In-Stop}
+use Rattle.x25.proofs.facility.facilities.Goals as goal
+
+-- where a body was found: what stands there, and that it lies within the part
+found : (c : In-Body)
+    → (fac_at c.args.s.now c.loop-i.i ≡ Body c.in-Body.start c.in-Body.len)
+    × Within (length c.args.s.now) c.loop-i.i (Body c.in-Body.start c.in-Body.len)
+found c =
+    let s = c.args.s.now in
+    let i = c.loop-i.i in
+    let e : fac_at s i ≡ Body c.in-Body.start c.in-Body.len = sym c.entry_at.ensures ∙ c.in-Body.is in
+    (e, subst (Within (length s) i) e (fac_within s i))
+
+-- what the last position leaves is `fac_left`: the octets from a stop on, and none at the end
+pub leaves : (c : In-Stop) → fac_left c.args.s.now ≡ length c.args.s.now - c.loop-i.i
+leaves c =
+    let s = c.args.s.now in
+    c.loop-i.invariant.3 ∙ left-stop s c.loop-i.i c.loop-i-test.true (sym c.entry_at.ensures ∙ c.in-Stop.is)
+
+pub leaves_none : (c : After-loop-i) → fac_left c.args.s.now ≡ 0
+leaves_none c = c.loop-i.invariant.3 ∙ left-none c.args.s.now c.loop-i.i c.loop-i-test.false
+
+pub loop-i-init : goal.loop-i-init
+loop-i-init c = (refl, omega arith, search rules, refl, λ p n e. e)
+
+pub returns-in-Stop : goal.returns-in-Stop
+returns-in-Stop c =
+    let a = c.args in
+    let l = c in let e : fac_at a.s.now l.loop-i.i ≡ Stop = sym c.entry_at.ensures ∙ c.in-Stop.is in
+    rw flat_walk
+    (finish l.loop-i.invariant.4 (done (fac_step a.base a.s.now) (λ n. []) (λ x r. flat 2 x ++ r) (length a.s.now) l.loop-i.i c.loop-i-test.true
+    (ap (step_of (λ start len. facility (get_or a.s.now l.loop-i.i 0) (a.base + start) len)) e)) (search rules) (search rules))
+
+pub overflow_add-base : goal.overflow_add-base
+overflow_add-base c = omega (arith, (found (goal.at.overflow_add-base c).In-Body).1)
+
+pub put_facility-next-requires : goal.put_facility-next-requires
+put_facility-next-requires c = omega (arith, (found (goal.at.put_facility-next-requires c).In-Body).1)
+
+pub overflow_add-i : goal.overflow_add-i
+overflow_add-i c = omega (arith, (found (goal.at.overflow_add-i c).In-Body).1)
+
+pub loop-i-smaller : goal.loop-i-smaller
+loop-i-smaller c = omega (arith, (found (goal.at.loop-i-smaller c).In-Body).1)
+
+pub loop-i-preserved : goal.loop-i-preserved
+loop-i-preserved c =
+    let p = c in let w = found (goal.at.loop-i-preserved c).In-Body in
+    let a = c.args in
+    let l = c in let put = c.put_facility-next.ensures in (
+      same_size put ∙ l.loop-i.invariant.0,
+      omega (arith, w.1),
+      search rules,
+      l.loop-i.invariant.3 ∙ left_behind a.s.now l.loop-i.i p.in-Body.start p.in-Body.len c.loop-i-test.true w.0,
+      onward l.loop-i.invariant.4 put
+          (turn (fac_step a.base a.s.now) (λ n. []) (λ x r. flat 2 x ++ r) (length a.s.now) l.loop-i.i (p.in-Body.start + p.in-Body.len) _
+          c.loop-i-test.true (omega (arith, w.1))
+          (ap (step_of (λ start len. facility (get_or a.s.now l.loop-i.i 0) (a.base + start) len)) w.0)),
+    )
+
+pub returns : goal.returns
+returns c =
+    let a = c.args in
+    let l = c in rw flat_walk (finish l.loop-i.invariant.4 (over (fac_step a.base a.s.now) (λ n. []) (λ x r. flat 2 x ++ r) (length a.s.now) l.loop-i.i c.loop-i-test.false) (search rules) (search rules))
