@@ -1,6 +1,6 @@
 -- Two runs of a list of blocks change places: the test says the same, and the octets' runs change places.
 use Prim.Native.Nat.{ℕ, zero, suc, ◌+◌, ◌*◌, ◌-◌, ◌≤◌, ◌<◌}
-use mathlib.Core.Path.{◌≡◌, refl, sym, ap, ◌∙◌}
+use mathlib.Core.Path.{◌≡◌, refl, sym, ap, ◌∙◌, subst}
 use mathlib.Core.Bool.{Bool, true, false, not, ◌&&◌}
 use mathlib.Core.List.Permᴰ
 use mathlib.Core.List.{List, [], ◌∷◌, ◌++◌, append_assoc, Permᴰ}
@@ -67,12 +67,16 @@ fresh_perm x (Permᴰ.cons e r) = rw (e, fresh_perm x r)
 fresh_perm x (Permᴰ.swap {a = a} {b = b} {l = l} e e') = rw (← e, ← e') (and_swap (not (eqb x a)) (not (eqb x b)) (fresh x l))
 fresh_perm x (Permᴰ.trans r s) = fresh_perm x r ∙ fresh_perm x s
 
+swap_ok : (k a b : ℕ) (l : List ℕ) → chain_ok k (a ∷ b ∷ l) ≡ chain_ok k (b ∷ a ∷ l)
+unfolding fresh chain_ok
+swap_ok k a b l = rw (eqb_sym b a) (shuffle (ltb a k) (ltb b k) (not (eqb a b)) (fresh a l) (fresh b l) (chain_ok k l))
+
 pub ok_perm : (k : ℕ) {l m : List ℕ} → Permᴰ l m → chain_ok k l ≡ chain_ok k m
 unfolding fresh chain_ok
 ok_perm k Permᴰ.nil = refl
 ok_perm k (Permᴰ.cons {b = b} e r) = rw (e, fresh_perm b r, ok_perm k r)
-ok_perm k (Permᴰ.swap {a = a} {b = b} {l = l} e e') =
-    rw (← e, ← e', eqb_sym b a) (shuffle (ltb a k) (ltb b k) (not (eqb a b)) (fresh a l) (fresh b l) (chain_ok k l))
+ok_perm k (Permᴰ.swap {a = a} {b = b} {b' = y} {l = l} e e') =
+    subst (λ (x : ℕ). chain_ok k (a ∷ b ∷ l) ≡ chain_ok k (x ∷ y ∷ l)) e' (subst (λ (z : ℕ). chain_ok k (a ∷ b ∷ l) ≡ chain_ok k (b ∷ z ∷ l)) e (swap_ok k a b l))
 ok_perm k (Permᴰ.trans r s) = ok_perm k r ∙ ok_perm k s
 
 -- ---- the four parts

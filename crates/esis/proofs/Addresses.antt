@@ -15,11 +15,11 @@ use Rattle.cells.specs.Items.{Items, none, leaf, group, part, in_list, ◌⊕◌
 use Rattle.esis.specs.Pdu.{address_ok, address_items, address_end}
 
 -- a test of a function's answer, turned round
-pub off : {b x : Bool} → b ≡ x → not b ≡ true → x ≡ false
-off {b} e h = sym e ∙ not-true b h
+pub off : {b x : Bool} → b ≡ x → b ≡ false → x ≡ false
+off e h = sym e ∙ h
 
-pub on : {b x : Bool} → b ≡ x → not b ≡ false → x ≡ true
-on {b} e h = sym e ∙ not-false b h
+pub on : {b x : Bool} → b ≡ x → b ≡ true → x ≡ true
+on e h = sym e ∙ h
 
 module _ (s : List ℕ) where
   abbrev pub behind : ℕ → ℕ

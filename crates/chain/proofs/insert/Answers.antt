@@ -17,9 +17,9 @@ rehome-requires c =
     let h = c.more.new.home in
     let l' = c.swap_runs.new.list in
     let e : l' ≡ swapped l a.p a.n (a.n + a.m) = c.swap_runs.ensures in
-    let ln : length l' ≡ length l = c.swap_runs.auto.0 in
-    let l0 : length l ≡ length a.list.now = c.more.auto.0 in
-    let h0 : length h ≡ length a.home.now = c.more.auto.1.0 in
+    let ln : length l' ≡ length l = c.swap_runs.auto.list in
+    let l0 : length l ≡ length a.list.now = c.more.auto.list in
+    let h0 : length h ≡ length a.home.now = c.more.auto.home in
     let ch : chain_ok a.b (take (a.n + a.m) l) ≡ true = homed-chain h l a.b (a.n + a.m) c.more.ensures.1 (omega (arith, pre)) in
     (omega (arith, pre), omega (arith, pre, ln), omega (arith, pre), omega (arith, pre, h0), rw e (still l a.p a.n (a.n + a.m) pre.0 (omega arith) (omega (arith, pre)) a.b ch), rw e (before l a.p a.n (a.n + a.m) pre.0 (omega arith) (omega (arith, pre)) h a.b c.more.ensures.1))
 
@@ -28,7 +28,7 @@ returns-then-p-n c =
     let a = c.args in
     let pre = c.requires in
     let l = c.more.new.list in
-    let l0 : length l ≡ length a.list.now = c.more.auto.0 in
+    let l0 : length l ≡ length a.list.now = c.more.auto.list in
     let e : c.swap_runs.new.list ≡ swapped l a.p a.n (a.n + a.m) = c.swap_runs.ensures in (
       ap (take (a.n + a.m)) e ∙ inserted a.list.now l a.n a.p a.m pre.0 (omega (arith, pre)) c.more.ensures.0
           ∙ ap (λ (x : List ℕ). take a.p a.list.now ++ (take a.m (drop a.p x) ++ take (a.n - a.p) (drop a.p a.list.now))) (sym e),

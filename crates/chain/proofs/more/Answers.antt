@@ -17,8 +17,8 @@ loop-i-preserved c =
     let a = c.args in
     let inv = c.loop-i.invariant in (
       omega arith,
-      c.one_more.auto.0 ∙ inv.1,
-      c.one_more.auto.1.0 ∙ inv.2,
+      c.one_more.auto.list ∙ inv.1,
+      c.one_more.auto.home ∙ inv.2,
       take_less c.one_more.new.list c.loop-i.list (a.n + c.loop-i.i) a.n (omega arith) c.one_more.ensures.0 ∙ inv.3,
       ap (homed c.one_more.new.home c.one_more.new.list a.b) (sym (add_assoc a.n c.loop-i.i 1)) ∙ c.one_more.ensures.1,
     )

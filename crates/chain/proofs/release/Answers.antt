@@ -16,7 +16,7 @@ rehome-requires c =
     let l = a.list.now in
     let l' = c.swap_runs.new.list in
     let e : l' ≡ swapped l a.p a.q a.n = c.swap_runs.ensures in
-    let ln : length l' ≡ length l = c.swap_runs.auto.0 in
+    let ln : length l' ≡ length l = c.swap_runs.auto.list in
     let ch : chain_ok a.b (take a.n l) ≡ true = homed-chain a.home.now l a.b a.n pre.6 (omega (arith, pre)) in
     let k : chain_ok a.b (take a.n l') ≡ true = rw e (still l a.p a.q a.n pre.0 pre.1 (omega (arith, pre)) a.b ch) in
     (omega (arith, pre), omega (arith, pre, ln), omega (arith, pre), omega (arith, pre), chain-less a.b l' a.n (a.n - (a.q - a.p)) (omega arith) k, rw e (before l a.p a.q a.n pre.0 pre.1 (omega (arith, pre)) a.home.now a.b pre.6))

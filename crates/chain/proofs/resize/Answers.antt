@@ -22,7 +22,7 @@ returns-then-k-n-2 c =
     let x : a.m + a.n - a.k ≡ a.m + (a.n - a.k) = omega (arith, c.if-k-n-2.true) in
     record {
       k_after = ap (homed c.insert.new.home c.insert.new.list a.b) x ∙ c.insert.ensures.1;
-      resized = resized_more a.list.now c.insert.new.list a.m a.a a.k a.n c.if-k-n-2.true pre.0 (omega (arith, pre, c.insert.auto.0)) c.insert.ensures.0;
+      resized = resized_more a.list.now c.insert.new.list a.m a.a a.k a.n c.if-k-n-2.true pre.0 (omega (arith, pre, c.insert.auto.list)) c.insert.ensures.0;
     }
 
 pub returns-else-k-n-2 : goal.returns-else-k-n-2

@@ -10,7 +10,7 @@ write_at-requires c =
     let a = c.args in
     let pre = c.requires.k_bound in
     let more = c.requires.b_in_bounds in
-    let fits : a.m + a.n - a.k ≤ length c.resize.new.list = omega (arith, pre, c.resize.auto.0) in
+    let fits : a.m + a.n - a.k ≤ length c.resize.new.list = omega (arith, pre, c.resize.auto.list) in
     (omega (arith, pre), fits, homed-chain c.resize.new.home c.resize.new.list a.b (a.m + a.n - a.k) c.resize.ensures.k_after fits, more.0, omega (arith, pre, more))
 
 pub returns : goal.returns
@@ -18,7 +18,7 @@ returns c =
     let a = c.args in
     let pre = c.requires.k_bound in
     let more = c.requires.b_in_bounds in
-    let fits : a.m + a.n - a.k ≤ length c.resize.new.list = omega (arith, pre, c.resize.auto.0) in record {
+    let fits : a.m + a.n - a.k ≤ length c.resize.new.list = omega (arith, pre, c.resize.auto.list) in record {
       k_after = c.resize.ensures.k_after;
-      spliced = now-spliced a.home.now a.list.now c.resize.new.home c.resize.new.list a.blocks.now a.b a.m a.a a.k a.n pre.6 (omega (arith, pre)) more.0 pre.0 c.resize.ensures.k_after fits c.resize.ensures.resized c.write_at.new.1.0 a.d a.src.now more.1 more.2 c.write_at.ensures;
+      spliced = now-spliced a.home.now a.list.now c.resize.new.home c.resize.new.list a.blocks.now a.b a.m a.a a.k a.n pre.6 (omega (arith, pre)) more.0 pre.0 c.resize.ensures.k_after fits c.resize.ensures.resized c.write_at.new.blocks a.d a.src.now more.1 more.2 c.write_at.ensures;
     }

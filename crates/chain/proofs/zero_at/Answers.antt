@@ -9,7 +9,7 @@ use Rattle.chain.specs.Chain.{flat}
 use Rattle.octets.proofs.Put.{put_nil}
 use Rattle.chain.proofs.Flat.{write_more, run-below, run_take}
 use Rattle.chain.proofs.Zeros.{part_zeros, zeros_long}
-use Rattle.chain.proofs.zero_at.Goals.{Joined-m-done}
+use Rattle.chain.proofs.zero_at.Goals.{Joined-m-done, then-m-done, else-m-done}
 use Rattle.chain.proofs.zero_at.Goals as goal
 
 -- what a turn knows of its n octets, where n is settled
@@ -27,7 +27,7 @@ turn c =
     let ln : length l ≡ a.n = length-take-le a.n a.list.now (omega (arith, start.requires)) in
     let hi : i + run.result ≤ a.n = omega (arith, start.requires, c, run.ensures) in
     let x< : get_or a.list.now i 0 + run.result ≤ a.b = rw (get_or-take a.n a.list.now i 0 (omega (arith, run.ensures))) at (run-below a.b l i run.result start.requires.2 (omega (arith, run.ensures)) (omega arith) (run_take a.list.now a.n i run.result hi run.ensures.2)) in
-    ⊎_elim (λ w. omega (arith, start.requires, c, run.ensures)) (λ w. omega (arith, start.requires, c, run.ensures)) c.if-m-done.branch
+    elim c.if-m-done.branch [ then-m-done w ↦ omega (arith, start.requires, c, run.ensures) | else-m-done w ↦ omega (arith, start.requires, c, run.ensures) ]
 
 pub loop-done-init : goal.loop-done-init
 loop-done-init c = (omega arith, refl, sym (put_nil (flat c.args.blocks.now (take c.args.n c.args.list.now)) c.args.v))
@@ -64,7 +64,7 @@ loop-done-preserved c =
     let up = run_take a.list.now a.n ((a.v + at.loop-done.done) / 64) run.result (omega (arith, t)) run.ensures.2 in
     let x= : get_or l ((a.v + at.loop-done.done) / 64) 0 ≡ get_or a.list.now ((a.v + at.loop-done.done) / 64) 0 = get_or-take a.n a.list.now ((a.v + at.loop-done.done) / 64) 0 (omega (arith, t, run.ensures)) in (
       omega (arith, t),
-      called.zero.auto.0 ∙ at.loop-done.invariant.1,
+      called.zero.auto.dst ∙ at.loop-done.invariant.1,
       write_more a.b a.blocks.now at.loop-done.blocks called.zero.new.dst l a.v (replicate a.m 0) at.loop-done.done joined.if-m-done.part run.result
           (omega (arith, start.requires)) (omega (arith, start.requires, at.loop-done.invariant)) start.requires.2 (omega (arith, start.requires)) (omega (arith, t)) up (omega (arith, t)) (omega (arith, t))
           at.loop-done.invariant.2 (rw x= (called.zero.ensures ∙ ap (put at.loop-done.blocks _) (sym (part_zeros a.m at.loop-done.done joined.if-m-done.part (omega (arith, t)))))),

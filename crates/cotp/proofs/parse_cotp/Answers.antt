@@ -19,11 +19,11 @@ returns-then-n-out c =
 pub returns-then-out-size : goal.returns-then-out-size
 returns-then-out-size c =
     let a = c.args in
-    let z = no_front c.put_record-size-2.new.out a.out.now c.put_record-size-2.auto.0 in
+    let z = no_front c.put_record-size-2.new.out a.out.now c.put_record-size-2.auto.out in
     says-short (members_of 0 a.b.now c.read-h.result) c.if-n-gt65535.false (cells_are a.b.now c.read-h.result c.read-h.ensures c.if-h-eq0.false) z (rw z at c.if-out-size.true) c.put_record-size-2.ensures
 
 pub returns : goal.returns
 returns c =
     let a = c.args in
-    let z = no_front c.put_record-size-2.new.out a.out.now c.put_record-size-2.auto.0 in
+    let z = no_front c.put_record-size-2.new.out a.out.now c.put_record-size-2.auto.out in
     says-whole (members_of 0 a.b.now c.read-h.result) c.if-n-gt65535.false (cells_are a.b.now c.read-h.result c.read-h.ensures c.if-h-eq0.false) z (rw z at c.if-out-size.false) (search rules) c.put_record-size-2.ensures c.put_record.ensures

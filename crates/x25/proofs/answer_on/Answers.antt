@@ -34,7 +34,7 @@ put_record-size-requires-2 c =
 pub returns-then-out-size : goal.returns-then-out-size
 returns-then-out-size c =
     let a = c.args in
-    let z = no_front c.put_record-size-2.new.1.1.0 a.out.now c.put_record-size-2.auto.1.1.0 in
+    let z = no_front c.put_record-size-2.new.out a.out.now c.put_record-size-2.auto.out in
     says-short (members_of a.b.now a.x) c.if-n-gt65535.false (cells_are a.b.now a.x c.requires c.if-x-eq0.false) z (rw z at c.if-out-size.true) c.put_record-size-2.ensures
 
 pub put_record-requires : goal.put_record-requires
@@ -45,5 +45,5 @@ put_record-requires c =
 pub returns : goal.returns
 returns c =
     let a = c.args in
-    let z = no_front c.put_record-size-2.new.1.1.0 a.out.now c.put_record-size-2.auto.1.1.0 in
+    let z = no_front c.put_record-size-2.new.out a.out.now c.put_record-size-2.auto.out in
     says-whole (members_of a.b.now a.x) c.if-n-gt65535.false (cells_are a.b.now a.x c.requires c.if-x-eq0.false) z (rw z at c.if-out-size.false) (search rules) c.put_record-size-2.ensures c.put_record.ensures

@@ -30,5 +30,5 @@ returns c =
         output = p.output ∙ ap (λ (r : Answer). output_of r (x25_cells s) old) p.answer;
         payload = rest c.payload_at-from.result s ∙ ap (λ (k : ℕ). drop k s) f;
       };
-      ref_ptr_value = (refl, ap (λ (k : ℕ). k + a.b.ptr.1) f);
+      ref_ptr_value = (refl, ap (λ (k : ℕ). k + a.b.ref_ptr.1) f);
     }

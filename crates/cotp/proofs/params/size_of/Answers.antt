@@ -25,4 +25,4 @@ returns-in-13 c = rw c.in-13.is refl
 
 pub returns-in_default : goal.returns-in_default
 returns-in_default c =
-    size_none _ (c.in_default.rest.0.0.0.0.0.0.1, c.in_default.rest.0.0.0.0.0.1, c.in_default.rest.0.0.0.0.1, c.in_default.rest.0.0.0.1, c.in_default.rest.0.0.1, c.in_default.rest.0.1, c.in_default.rest.1)
+    size_none _ (c.in_default.in_default-own.rest.0.0.0.0.0.0.1, c.in_default.in_default-own.rest.0.0.0.0.0.1, c.in_default.in_default-own.rest.0.0.0.0.1, c.in_default.in_default-own.rest.0.0.0.1, c.in_default.in_default-own.rest.0.0.1, c.in_default.in_default-own.rest.0.1, c.in_default.in_default-own.rest.1)

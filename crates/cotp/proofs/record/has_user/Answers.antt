@@ -8,4 +8,4 @@ pub returns-in-285 : goal.returns-in-285
 returns-in-285 c = let a = c.args in user_ed a.b.now a.h c.in-285.is
 
 pub returns-in_default : goal.returns-in_default
-returns-in_default c = let a = c.args in no_user a.b.now a.h c.in_default.rest.0.1 c.in_default.rest.1
+returns-in_default c = let a = c.args in no_user a.b.now a.h c.in_default.in_default-own.rest.0.1 c.in_default.in_default-own.rest.1

@@ -57,7 +57,7 @@ pub put_credit-requires : goal.put_credit-requires
 put_credit-requires c =
     let a = c.args in
     let w = said a.b.now a.h c.requires.1 c.requires.2 in
-    (c.requires.0, at_rest a.b.now a.h w (c.requires.2, c.in_default.rest.0.0.0.0.0.0.0.1, c.in_default.rest.0.0.0.0.0.0.1, c.in_default.rest.0.0.0.0.0.1, c.in_default.rest.0.0.0.0.1, c.in_default.rest.0.0.0.1, c.in_default.rest.0.0.1, c.in_default.rest.0.1, c.in_default.rest.1))
+    (c.requires.0, at_rest a.b.now a.h w (c.requires.2, c.in_default.in_default-own.rest.0.0.0.0.0.0.0.1, c.in_default.in_default-own.rest.0.0.0.0.0.0.1, c.in_default.in_default-own.rest.0.0.0.0.0.1, c.in_default.in_default-own.rest.0.0.0.0.1, c.in_default.in_default-own.rest.0.0.0.1, c.in_default.in_default-own.rest.0.0.1, c.in_default.in_default-own.rest.0.1, c.in_default.in_default-own.rest.1))
 
 pub returns-in-281 : goal.returns-in-281
 unfolding fixed_members
@@ -119,4 +119,4 @@ pub returns-in_default : goal.returns-in_default
 returns-in_default c =
     let a = c.args in
     let w = said a.b.now a.h c.requires.1 c.requires.2 in
-    row_as a.depth (members_rest a.b.now a.h w (c.requires.2, c.in_default.rest.0.0.0.0.0.0.0.1, c.in_default.rest.0.0.0.0.0.0.1, c.in_default.rest.0.0.0.0.0.1, c.in_default.rest.0.0.0.0.1, c.in_default.rest.0.0.0.1, c.in_default.rest.0.0.1, c.in_default.rest.0.1, c.in_default.rest.1)) c.put_credit.ensures
+    row_as a.depth (members_rest a.b.now a.h w (c.requires.2, c.in_default.in_default-own.rest.0.0.0.0.0.0.0.1, c.in_default.in_default-own.rest.0.0.0.0.0.0.1, c.in_default.in_default-own.rest.0.0.0.0.0.1, c.in_default.in_default-own.rest.0.0.0.0.1, c.in_default.in_default-own.rest.0.0.0.1, c.in_default.in_default-own.rest.0.0.1, c.in_default.in_default-own.rest.0.1, c.in_default.in_default-own.rest.1)) c.put_credit.ensures

@@ -12,5 +12,5 @@ returns c =
     let s = a.b.now in
     record {
       result_value = rest c.user_at-from.result s ∙ ap (λ (k : ℕ). drop k s) c.user_at-from.ensures ∙ drop-within (user_from s a.s) s;
-      ref_ptr_value = (refl, ap (λ (k : ℕ). k + a.b.ptr.1) c.user_at-from.ensures);
+      ref_ptr_value = (refl, ap (λ (k : ℕ). k + a.b.ref_ptr.1) c.user_at-from.ensures);
     }

@@ -46,4 +46,4 @@ returns-in-7 c = rw c.in-7.is refl
 pub returns-in_default : goal.returns-in_default
 unfolding name_of
 returns-in_default c =
-    simp (ne_eqb _ _ c.in_default.rest.0.0.0.0.0.0.0.0.0.1, ne_eqb _ _ c.in_default.rest.0.0.0.0.0.0.0.0.1, ne_eqb _ _ c.in_default.rest.0.0.0.0.0.0.0.1, ne_eqb _ _ c.in_default.rest.0.0.0.0.0.0.1, ne_eqb _ _ c.in_default.rest.0.0.0.0.0.1, ne_eqb _ _ c.in_default.rest.0.0.0.0.1, ne_eqb _ _ c.in_default.rest.0.0.0.1, ne_eqb _ _ c.in_default.rest.0.0.1, ne_eqb _ _ c.in_default.rest.0.1, ne_eqb _ _ c.in_default.rest.1)
+    simp (ne_eqb _ _ c.in_default.in_default-own.rest.0.0.0.0.0.0.0.0.0.1, ne_eqb _ _ c.in_default.in_default-own.rest.0.0.0.0.0.0.0.0.1, ne_eqb _ _ c.in_default.in_default-own.rest.0.0.0.0.0.0.0.1, ne_eqb _ _ c.in_default.in_default-own.rest.0.0.0.0.0.0.1, ne_eqb _ _ c.in_default.in_default-own.rest.0.0.0.0.0.1, ne_eqb _ _ c.in_default.in_default-own.rest.0.0.0.0.1, ne_eqb _ _ c.in_default.in_default-own.rest.0.0.0.1, ne_eqb _ _ c.in_default.in_default-own.rest.0.0.1, ne_eqb _ _ c.in_default.in_default-own.rest.0.1, ne_eqb _ _ c.in_default.in_default-own.rest.1)

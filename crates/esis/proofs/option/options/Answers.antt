@@ -13,11 +13,11 @@ use Rattle.fields.proofs.Tlvs.{whole-at}
 use Rattle.esis.specs.Pdu.{option, option_step, option_left}
 use Rattle.esis.proofs.Options.{left_behind, left-stop, left-none}
 use borrow.Author.Rules.{rules}
-use Rattle.esis.proofs.option.options.Goals.{After-loop-i, In-Body-2, In-Stop}
+use Rattle.esis.proofs.option.options.Goals.{After-loop-i, In-Body, In-Stop}
 use Rattle.esis.proofs.option.options.Goals as goal
 
 -- where a body was found: what stands there, and that it lies within the part
-found : (c : In-Body-2)
+found : (c : In-Body)
     → (tlv_at c.args.s.now c.loop-i.i ≡ Body c.in-Body.start c.in-Body.len)
     × ((c.in-Body.start ≡ c.loop-i.i + 2) × (c.in-Body.start + c.in-Body.len ≤ length c.args.s.now))
 found c =
@@ -47,20 +47,20 @@ returns-in-Stop c =
     (ap (step_of (λ start n. option (get_or a.s.now l.loop-i.i 0) (a.base + start) n)) e)) (search rules) (search rules))
 
 pub overflow_add-base : goal.overflow_add-base
-overflow_add-base c = omega (arith, (found (goal.at.overflow_add-base c).In-Body-2).1.1, c.requires)
+overflow_add-base c = omega (arith, (found (goal.at.overflow_add-base c).In-Body).1.1, c.requires)
 
 pub put_option-next-requires : goal.put_option-next-requires
-put_option-next-requires c = omega (arith, (found (goal.at.put_option-next-requires c).In-Body-2).1.1, c.requires)
+put_option-next-requires c = omega (arith, (found (goal.at.put_option-next-requires c).In-Body).1.1, c.requires)
 
 pub overflow_add-i : goal.overflow_add-i
-overflow_add-i c = omega (arith, (found (goal.at.overflow_add-i c).In-Body-2).1.1)
+overflow_add-i c = omega (arith, (found (goal.at.overflow_add-i c).In-Body).1.1)
 
 pub loop-i-smaller : goal.loop-i-smaller
-loop-i-smaller c = omega (arith, (found (goal.at.loop-i-smaller c).In-Body-2).1.0, (found (goal.at.loop-i-smaller c).In-Body-2).1.1)
+loop-i-smaller c = omega (arith, (found (goal.at.loop-i-smaller c).In-Body).1.0, (found (goal.at.loop-i-smaller c).In-Body).1.1)
 
 pub loop-i-preserved : goal.loop-i-preserved
 loop-i-preserved c =
-    let p = c in let w = found (goal.at.loop-i-preserved c).In-Body-2 in
+    let p = c in let w = found (goal.at.loop-i-preserved c).In-Body in
     let a = c.args in
     let l = c in let put = c.put_option-next.ensures in (
       same_size put ∙ l.loop-i.invariant.0,

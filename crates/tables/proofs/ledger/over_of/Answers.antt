@@ -7,7 +7,7 @@ use Rattle.tables.proofs.Laws.{sum-none, sum-next}
 use Rattle.tables.proofs.ledger.over_of.Goals as goal
 
 pub loop-i-init : goal.loop-i-init
-loop-i-init c = (omega arith, sym (sum-none (λ l. get_or c.args.t1.counts l 0 - c.args.r)), omega arith)
+loop-i-init c = (omega arith, sym (sum-none (λ l. get_or c.args.g.counts l 0 - c.args.r)), omega arith)
 
 pub overflow_add-sum : goal.overflow_add-sum
 overflow_add-sum c = omega (arith, c.above-sum.ensures, c.requires c.loop-i.i (omega arith))
@@ -15,11 +15,11 @@ overflow_add-sum c = omega (arith, c.above-sum.ensures, c.requires c.loop-i.i (o
 pub loop-i-preserved : goal.loop-i-preserved
 loop-i-preserved c =
     let l = c.loop-i in
-    let n = sum-next (λ l. get_or c.args.t1.counts l 0 - c.args.r) l.i in
+    let n = sum-next (λ l. get_or c.args.g.counts l 0 - c.args.r) l.i in
     let low = c.requires l.i (omega arith) in
     (omega arith, omega (arith, n, c.above-sum.ensures), omega (arith, low, c.above-sum.ensures))
 
 pub returns : goal.returns
 returns c =
     let e : c.loop-i.i ≡ 16 = omega arith in
-    c.loop-i.invariant.1 ∙ ap (sum (λ l. get_or c.args.t1.counts l 0 - c.args.r)) e
+    c.loop-i.invariant.1 ∙ ap (sum (λ l. get_or c.args.g.counts l 0 - c.args.r)) e

@@ -41,7 +41,7 @@ returns-in-241 c = rw c.in-241.is c.diagnostic.ensures
 
 pub returns-in_default : goal.returns-in_default
 returns-in_default c =
-    let n = c.in_default.rest in
+    let n = c.in_default.in_default-own.rest in
     let p = c.requires in
     c.plain-in_default.ensures
     ∙ sym (is_none c.args.b.now c.args.t (p.1, n.0.0.0.0.0.0.0.0.1, n.0.0.0.0.0.0.0.1, n.0.0.0.0.0.0.1, n.0.0.0.0.0.1, n.0.0.0.0.1, n.0.0.0.1, n.0.0.1, n.0.1, n.1) p.2 p.3 p.4)
