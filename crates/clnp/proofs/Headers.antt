@@ -4,7 +4,7 @@ use mathlib.Core.Path.{◌≡◌, refl, sym, ap, ◌∙◌}
 use mathlib.Core.List.{List}
 use mathlib.Core.Bool.{Bool, true, false, not, ◌&&◌}
 use native.Mathlib.Omega.{arith}
-use borrow.Author.Tests.{lt-ltb, le-ltb, le-leb, lt-leb, ltb-true, leb-true, eq-eqb, ne_eqb}
+use borrow.Author.Tests.{not-false, lt-ltb, le-ltb, le-leb, lt-leb, ltb-true, leb-true, eq-eqb, ne_eqb}
 use lib.Dec.{ltb, leb, eqb}
 use lib.ListN.{length, get_or}
 use Rattle.octets.specs.Text.{pick}
@@ -24,19 +24,11 @@ both false true e = (e, refl)
 both false false e = (e, e)
 
 -- a test of a function's answer, turned round
-not_true : (b : Bool) → not b ≡ true → b ≡ false
-not_true true e = sym e
-not_true false e = refl
+pub off : {b x : Bool} → b ≡ x → b ≡ false → x ≡ false
+off e h = sym e ∙ h
 
-not_false : (b : Bool) → not b ≡ false → b ≡ true
-not_false true e = refl
-not_false false e = sym e
-
-pub off : {b x : Bool} → b ≡ x → not b ≡ true → x ≡ false
-off {b} e h = sym e ∙ not_true b h
-
-pub on : {b x : Bool} → b ≡ x → not b ≡ false → x ≡ true
-on {b} e h = sym e ∙ not_false b h
+pub on : {b x : Bool} → b ≡ x → b ≡ true → x ≡ true
+on e h = sym e ∙ h
 
 -- ---- a full header
 abbrev head_tested : Bool → Bool → Bool → Bool → Bool
@@ -187,4 +179,4 @@ unfolding tpdu_of
 within s =
     pick_elim (Within s) (not (headed s)) (λ h. omega arith)
     (λ h. pick_elim (Within s) (not (eqb (get_or s 4 0 % 32) 0x1C)) (λ d. omega arith)
-    (λ d. pick_elim (Within s) (sp s && is_piece (segment_of s)) (λ p. omega arith) (λ p. from-within s (get_or s 1 0) (full s (not_false (headed s) h)).2)))
+    (λ d. pick_elim (Within s) (sp s && is_piece (segment_of s)) (λ p. omega arith) (λ p. from-within s (get_or s 1 0) (full s (not-false (headed s) h)).2)))

@@ -27,7 +27,7 @@ put_record-size-requires-2 c = (omega (arith, c.if-n-gt65535.false), on c.readab
 pub returns-then-out-size : goal.returns-then-out-size
 returns-then-out-size c =
     let a = c.args in
-    let z = no_front c.put_record-size-2.new.out a.out.now c.put_record-size-2.auto.0 in
+    let z = no_front c.put_record-size-2.new.out a.out.now c.put_record-size-2.auto.out in
     says-short (members_of a.b.now) c.if-n-gt65535.false (cells_are a.b.now (on c.readable.ensures c.if-not-readable.false)) z (rw z at c.if-out-size.true) c.put_record-size-2.ensures
 
 pub put_record-requires : goal.put_record-requires
@@ -36,5 +36,5 @@ put_record-requires c = (omega (arith, c.if-n-gt65535.false), on c.readable.ensu
 pub returns : goal.returns
 returns c =
     let a = c.args in
-    let z = no_front c.put_record-size-2.new.out a.out.now c.put_record-size-2.auto.0 in
+    let z = no_front c.put_record-size-2.new.out a.out.now c.put_record-size-2.auto.out in
     says-whole (members_of a.b.now) c.if-n-gt65535.false (cells_are a.b.now (on c.readable.ensures c.if-not-readable.false)) z (rw z at c.if-out-size.false) (search rules) c.put_record-size-2.ensures c.put_record.ensures

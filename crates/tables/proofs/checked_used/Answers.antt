@@ -18,20 +18,20 @@ is_set c = sym c.settings_ok.ensures ∙ c.if-not-settings_ok.false
 low : (c : Else-not-link_ok) → count c.args.words.now c.loop-l.l ≤ 1024
 low c =
     let w = c.args.words.now in
-    let q = settings w (is_set c) in
+    let q = settings w (sym c.settings_ok.ensures ∙ c.if-not-settings_ok.false) in
     omega (arith, (link w c.loop-l.l (sym c.link_ok.ensures ∙ c.if-not-link_ok.false)).within, q.capped, q.few-blocks)
 
 each : (c : After-past_ok) → all (link_at c.args.words.now) 16 ≡ c.past_ok.result
 each c =
     let w = c.args.words.now in
     let e : c.loop-l.l ≡ links w = omega arith in
-    links-hold w (settings w (is_set c)).few-links (ap (all (link_ok w)) (sym e) ∙ c.loop-l.invariant.1) ∙ sym c.past_ok.ensures
+    links-hold w (settings w (sym c.settings_ok.ensures ∙ c.if-not-settings_ok.false)).few-links (ap (all (link_ok w)) (sym e) ∙ c.loop-l.invariant.1) ∙ sym c.past_ok.ensures
 
 last : (c : Else-not-past_ok) → tables_ok c.args.words.now ≡ leb c.loop-l.over (blocks_in c.args.words.now - links c.args.words.now * reserve c.args.words.now)
 last c =
     let w = c.args.words.now in
     let e : c.loop-l.l ≡ links w = omega arith in
-    common w c.if-words-lt1576.false (is_set c) (each c ∙ c.if-not-past_ok.false) ∙ ap (λ (x : ℕ). leb x (blocks_in w - links w * reserve w)) (sym (c.loop-l.invariant.3 ∙ ap (excess_of w) e))
+    common w c.if-words-lt1576.false (sym c.settings_ok.ensures ∙ c.if-not-settings_ok.false) (links-hold w (settings w (sym c.settings_ok.ensures ∙ c.if-not-settings_ok.false)).few-links (ap (all (link_ok w)) (sym e) ∙ c.loop-l.invariant.1) ∙ sym c.past_ok.ensures ∙ c.if-not-past_ok.false) ∙ ap (λ (x : ℕ). leb x (blocks_in w - links w * reserve w)) (sym (c.loop-l.invariant.3 ∙ ap (excess_of w) e))
 
 pub returns-then-words-lt1576 : goal.returns-then-words-lt1576
 returns-then-words-lt1576 c = unsound c.args.words.now (short c.args.words.now c.if-words-lt1576.true)

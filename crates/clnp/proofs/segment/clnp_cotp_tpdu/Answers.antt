@@ -19,5 +19,5 @@ returns c =
     let s = a.b.now in
     let f : c.tpdu_place-from.result ≡ tpdu_place s (tpdu_of s) = c.tpdu_place-from.ensures ∙ ap (tpdu_place s) c.tpdu_of-t.ensures in record {
       answer_after = (c.tpdu_answer.ensures ∙ ap (tpdu_answer s) c.tpdu_of-t.ensures, rest c.tpdu_place-from.result s ∙ ap (λ (k : ℕ). drop k s) f);
-      ref_ptr_value = (refl, ap (λ (k : ℕ). k + a.b.ptr.1) f);
+      ref_ptr_value = (refl, ap (λ (k : ℕ). k + a.b.ref_ptr.1) f);
     }

@@ -1,0 +1,66 @@
+use Prim.Native.Nat.{ℕ, suc, ◌+◌, ◌*◌}
+use mathlib.Core.Path.{◌≡◌, refl, sym, ap, ◌∙◌}
+use mathlib.Core.List.{List, [], ◌∷◌, ◌++◌}
+use native.Mathlib.Omega.{arith}
+use borrow.Author.Rules.{rules}
+use lib.ListN.{length, get_or, set, take, length-set}
+use lib.Seq.{take_all}
+use Rattle.octets.specs.Emit.{put}
+use Rattle.octets.proofs.Put.{put_nil, put_next, put-put}
+use Rattle.pool.proofs.place.set_place.Goals as goal
+
+-- the five words behind the key, set one after the other
+abbrev tail-set : List ℕ → ℕ → ℕ → ℕ → ℕ → ℕ → ℕ → List ℕ
+tail-set x at v₁ v₂ v₃ v₄ v₅ = set (set (set (set (set x (at + 6) v₁) (at + 7) v₂) (at + 8) v₃) (at + 9) v₄) (at + 10) v₅
+
+tail : (w key : List ℕ) (at v₁ v₂ v₃ v₄ v₅ : ℕ) → length key ≡ 6 → tail-set (put w at key) at v₁ v₂ v₃ v₄ v₅ ≡ put w at (key ++ (v₁ ∷ v₂ ∷ v₃ ∷ v₄ ∷ v₅ ∷ []))
+unfolding put
+tail w key at v₁ v₂ v₃ v₄ v₅ h =
+    let vs : List ℕ = v₁ ∷ v₂ ∷ v₃ ∷ v₄ ∷ v₅ ∷ [] in
+    let n : at + length key ≡ at + 6 = omega (arith, h) in
+    let a : suc (at + 6) ≡ at + 7 = omega arith in
+    let b : suc (at + 7) ≡ at + 8 = omega arith in
+    let c : suc (at + 8) ≡ at + 9 = omega arith in
+    let d : suc (at + 9) ≡ at + 10 = omega arith in
+    let e : put (put w at key) (at + 6) vs ≡ tail-set (put w at key) at v₁ v₂ v₃ v₄ v₅ = rw (a, b, c, d) in
+    sym e ∙ ap (λ (i : ℕ). put (put w at key) i vs) (sym n) ∙ put-put w at key vs
+
+pub loop-k-init : goal.loop-k-init
+loop-k-init c = (omega arith, sym (put_nil _ _), refl)
+
+pub loop-k-preserved : goal.loop-k-preserved
+loop-k-preserved c =
+    let x = c.loop-k in
+    let a = c.args in
+    let long : length a.t4.key ≡ 6 = search rules in
+    (omega arith, ap (λ (l : List ℕ). set l (40 + 12 * a.p + x.k) (get_or a.t4.key x.k 0)) x.invariant.1 ∙ put_next a.words.now a.t4.key (40 + 12 * a.p) x.k 0 (omega arith), simp length-set x.invariant.2)
+
+pub bounds-words-at-2 : goal.bounds-words-at-2
+bounds-words-at-2 c = omega (arith, c.loop-k.invariant.2)
+
+pub bounds-words-at-3 : goal.bounds-words-at-3
+bounds-words-at-3 c = simp length-set (omega (arith, c.loop-k.invariant.2))
+
+pub bounds-words-at-4 : goal.bounds-words-at-4
+bounds-words-at-4 c = simp length-set (omega (arith, c.loop-k.invariant.2))
+
+pub bounds-words-at-5 : goal.bounds-words-at-5
+bounds-words-at-5 c = simp length-set (omega (arith, c.loop-k.invariant.2))
+
+pub bounds-words-at-6 : goal.bounds-words-at-6
+bounds-words-at-6 c = simp length-set (omega (arith, c.loop-k.invariant.2))
+
+pub shape_of-words : goal.shape_of-words
+shape_of-words c = simp length-set c.loop-k.invariant.2
+
+pub returns : goal.returns
+returns c =
+    let a = c.args in
+    let l = c.loop-k in
+    let long : length a.t4.key ≡ 6 = search rules in
+    let six : l.k ≡ 6 = omega arith in
+    let whole : l.words ≡ put a.words.now (40 + 12 * a.p) a.t4.key = l.invariant.1 ∙ ap (λ (k : ℕ). put a.words.now (40 + 12 * a.p) (take k a.t4.key)) six ∙ ap (put a.words.now (40 + 12 * a.p)) (take_all 6 a.t4.key (omega arith)) in
+    record {
+      words_after = ap (λ (x : List ℕ). tail-set x (40 + 12 * a.p) a.t4.note a.t4.body a.t4.top a.t4.bodyblocks a.t4.topblocks) whole ∙ tail a.words.now a.t4.key (40 + 12 * a.p) a.t4.note a.t4.body a.t4.top a.t4.bodyblocks a.t4.topblocks long;
+      times_after = refl;
+    }
