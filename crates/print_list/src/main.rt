@@ -7,10 +7,10 @@ use cells::emit::{
     close_group, open_list, open_object, put_flag, put_hex_part, put_number, put_octet_leaf,
     put_prefix, put_text_number, put_word_leaf,
 };
-use libc::STDOUT_FILENO;
 use octets::emit::put_octet;
 use octets::text::put_decimal;
 use print::print;
+use std::io::{self, Stdout, Write};
 
 const INPUT: [u8; 8] = [0, 1, 9, 15, 16, 171, 205, 255];
 
@@ -43,29 +43,31 @@ const TRIED: [u64; 25] = [
     0x01_4_1_0000_00000000,
 ];
 
-fn put_head(answer: u8, size: usize) {
+fn put_head(to: &mut Stdout, answer: u8, size: usize) -> io::Result<()> {
     let mut line = [0u8; 32];
     let a = put_decimal(&mut line, 0, answer as u32);
     let b = put_octet(&mut line, a, b' ');
     let c = put_decimal(&mut line, b, (size % 65536) as u32);
     let d = put_octet(&mut line, c, b' ');
     if d <= 32 {
-        io::write_all(STDOUT_FILENO, &line[..d]);
+        to.write_all(&line[..d])?;
     }
+    Ok(())
 }
 
-fn show(cells: &[u64], n: usize, input: &[u8], out: &mut [u8]) {
+fn show(to: &mut Stdout, cells: &[u64], n: usize, input: &[u8], out: &mut [u8]) -> io::Result<()> {
     if n <= cells.len() {
         let answer = print(&cells[..n], input, out);
         let size = count(answer);
-        put_head(number(answer), size);
+        put_head(to, number(answer), size)?;
         if size == 0 {
-            io::write_all(STDOUT_FILENO, b"-");
+            to.write_all(b"-")?;
         } else if size <= out.len() {
-            io::write_all(STDOUT_FILENO, &out[..size]);
+            to.write_all(&out[..size])?;
         }
-        io::write_all(STDOUT_FILENO, b"\n");
+        to.write_all(b"\n")?;
     }
+    Ok(())
 }
 
 fn empty(cells: &mut [u64]) -> usize {
@@ -182,75 +184,77 @@ fn single(cells: &mut [u64], c: u64) -> usize {
     a
 }
 
-fn singles(cells: &mut [u64], out: &mut [u8]) {
+fn singles(to: &mut Stdout, cells: &mut [u64], out: &mut [u8]) -> io::Result<()> {
     let tried = TRIED;
     let input = INPUT;
     for k in 0..25 {
         let n = single(cells, tried[k]);
-        show(cells, n, &input, out);
+        show(to, cells, n, &input, out)?;
     }
+    Ok(())
 }
 
 // The whole text fits, or it is one octet too long.
-fn rooms(cells: &mut [u64]) {
+fn rooms(to: &mut Stdout, cells: &mut [u64]) -> io::Result<()> {
     let n = data_packet(cells);
     let input = INPUT;
     let mut enough = [0u8; 50];
     let mut short = [0u8; 49];
-    show(cells, n, &input, &mut enough);
-    show(cells, n, &input, &mut short);
+    show(to, cells, n, &input, &mut enough)?;
+    show(to, cells, n, &input, &mut short)
 }
 
 // The last cell left out, and all of them.
-fn cut(cells: &mut [u64], out: &mut [u8]) {
+fn cut(to: &mut Stdout, cells: &mut [u64], out: &mut [u8]) -> io::Result<()> {
     data_packet(cells);
     let input = INPUT;
-    show(cells, 6, &input, out);
-    show(cells, 0, &input, out);
+    show(to, cells, 6, &input, out)?;
+    show(to, cells, 0, &input, out)
 }
 
-fn long_inputs(cells: &mut [u64], out: &mut [u8]) {
+fn long_inputs(to: &mut Stdout, cells: &mut [u64], out: &mut [u8]) -> io::Result<()> {
     let n = empty(cells);
     let longest = [0u8; 65535];
     let longer = [0u8; 65536];
-    show(cells, n, &longest, out);
-    show(cells, n, &longer, out);
+    show(to, cells, n, &longest, out)?;
+    show(to, cells, n, &longer, out)
 }
 
-fn records(cells: &mut [u64], out: &mut [u8]) {
+fn records(to: &mut Stdout, cells: &mut [u64], out: &mut [u8]) -> io::Result<()> {
     let input = INPUT;
     let a = empty(cells);
-    show(cells, a, &input, out);
+    show(to, cells, a, &input, out)?;
     let b = data_packet(cells);
-    show(cells, b, &input, out);
+    show(to, cells, b, &input, out)
 }
 
-fn leaves(cells: &mut [u64], out: &mut [u8]) {
+fn leaves(to: &mut Stdout, cells: &mut [u64], out: &mut [u8]) -> io::Result<()> {
     let input = INPUT;
     let a = numbers(cells);
-    show(cells, a, &input, out);
+    show(to, cells, a, &input, out)?;
     let b = texts(cells);
-    show(cells, b, &input, out);
+    show(to, cells, b, &input, out)
 }
 
-fn nested(cells: &mut [u64], out: &mut [u8]) {
+fn nested(to: &mut Stdout, cells: &mut [u64], out: &mut [u8]) -> io::Result<()> {
     let input = INPUT;
     let a = prefixes(cells);
-    show(cells, a, &input, out);
+    show(to, cells, a, &input, out)?;
     let b = groups(cells);
-    show(cells, b, &input, out);
+    show(to, cells, b, &input, out)?;
     let c = deep(cells);
-    show(cells, c, &input, out);
+    show(to, cells, c, &input, out)
 }
 
-fn main() {
+fn main(rt: HostRuntime) -> io::Result<()> {
+    let mut to = rt.stdout();
     let mut cells = [0u64; 64];
     let mut out = [0u8; 512];
-    records(&mut cells, &mut out);
-    leaves(&mut cells, &mut out);
-    nested(&mut cells, &mut out);
-    singles(&mut cells, &mut out);
-    rooms(&mut cells);
-    cut(&mut cells, &mut out);
-    long_inputs(&mut cells, &mut out);
+    records(&mut to, &mut cells, &mut out)?;
+    leaves(&mut to, &mut cells, &mut out)?;
+    nested(&mut to, &mut cells, &mut out)?;
+    singles(&mut to, &mut cells, &mut out)?;
+    rooms(&mut to, &mut cells)?;
+    cut(&mut to, &mut cells, &mut out)?;
+    long_inputs(&mut to, &mut cells, &mut out)
 }

@@ -1,9 +1,9 @@
 // Prints octets and numbers in each of the texts that records have. The file stdout holds what the Rust's formats print.
 #![tactic(auto)]
 
-use libc::STDOUT_FILENO;
 use octets::emit::put_octet;
 use octets::text::{put_0x, put_decimal, put_hex, put_hex_octet, put_hex_word};
+use std::io::{self, Stdout, Write};
 
 const NUMBERS: [u32; 66] = [
     0, 1, 2, 9, 10, 11, 15, 16, 17, 99, 100, 101, 127, 128, 129, 255, 256, 257, 999, 1000, 1001,
@@ -15,44 +15,48 @@ const NUMBERS: [u32; 66] = [
 ];
 
 // Writes a line feed behind the first at octets, and all of it to standard output.
-fn end_line(out: &mut [u8], at: usize) {
+fn end_line(to: &mut Stdout, out: &mut [u8], at: usize) -> io::Result<()> {
     let n = put_octet(out, at, b'\n');
     if n <= out.len() {
-        io::write_all(STDOUT_FILENO, &out[..n]);
+        to.write_all(&out[..n])?;
     }
+    Ok(())
 }
 
-fn octet_line(out: &mut [u8], x: u8) {
+fn octet_line(to: &mut Stdout, out: &mut [u8], x: u8) -> io::Result<()> {
     let a = put_hex_octet(out, 0, x);
     let b = put_octet(out, a, b' ');
     let c = put_0x(out, b, x);
-    end_line(out, c);
+    end_line(to, out, c)
 }
 
-fn number_line(out: &mut [u8], n: u32) {
+fn number_line(to: &mut Stdout, out: &mut [u8], n: u32) -> io::Result<()> {
     let a = put_decimal(out, 0, n);
     let b = put_octet(out, a, b' ');
     let c = put_hex_word(out, b, n);
-    end_line(out, c);
+    end_line(to, out, c)
 }
 
-fn octet_lines(out: &mut [u8]) {
+fn octet_lines(to: &mut Stdout, out: &mut [u8]) -> io::Result<()> {
     for x in 0..256u32 {
-        octet_line(out, (x % 256) as u8);
+        octet_line(to, out, (x % 256) as u8)?;
     }
+    Ok(())
 }
 
-fn number_lines(out: &mut [u8]) {
+fn number_lines(to: &mut Stdout, out: &mut [u8]) -> io::Result<()> {
     let numbers = NUMBERS;
     for i in 0..66usize {
-        number_line(out, numbers[i]);
+        number_line(to, out, numbers[i])?;
     }
+    Ok(())
 }
 
-fn main() {
+fn main(rt: HostRuntime) -> io::Result<()> {
+    let mut to = rt.stdout();
     let mut out = [0u8; 64];
-    octet_lines(&mut out);
-    number_lines(&mut out);
+    octet_lines(&mut to, &mut out)?;
+    number_lines(&mut to, &mut out)?;
     let n = put_hex(&mut out, 0, b"the end");
-    end_line(&mut out, n);
+    end_line(&mut to, &mut out, n)
 }
