@@ -3,17 +3,16 @@
 
 ghost use Rattle.std.specs.Prelude.{◌≡◌, ◌≤◌, length};
 
-use libc::{STDIN_FILENO, STDOUT_FILENO};
 use octets::emit::put_part;
 use replay_line::word::find;
 use reply::reply;
+use std::io::{self, Read, Stdin, Stdout, Write};
 
-// Between two reads: the octets of the line so far, the lines before it, and whether all that was said could be written.
+// Between two reads: the octets of the line so far, and the lines before it.
 #[derive(Clone, Copy)]
 struct State {
     size: usize,
     lines: u64,
-    open: bool,
 }
 
 fn least(a: usize, b: usize) -> usize
@@ -39,9 +38,9 @@ fn answer(
     reply(out, at, n, &line[..end], packet, cells, text)
 }
 
-fn flush(out: &[u8], at: usize) -> bool {
+fn flush(to: &mut Stdout, out: &[u8], at: usize) -> io::Result<()> {
     let end = least(at, out.len());
-    io::write_all(STDOUT_FILENO, &out[..end])
+    to.write_all(&out[..end])
 }
 
 // Where the next answer, of at most 8,300 octets, might not fit, what there is is written.
@@ -51,6 +50,7 @@ fn is_full(out: &[u8], at: usize) -> bool {
 
 // Answers the lines that end in buf.
 fn answer_some(
+    to: &mut Stdout,
     buf: &[u8],
     before: State,
     line: &mut [u8],
@@ -58,14 +58,13 @@ fn answer_some(
     cells: &mut [u64],
     text: &mut [u8],
     out: &mut [u8],
-) -> State
+) -> io::Result<State>
     requires { 2048 ≤ length packet.old }
 {
     let mut i: usize = 0;
     let mut at: usize = 0;
     let mut size = before.size;
     let mut lines = before.lines;
-    let mut open = before.open;
     while i < buf.len() {
         let end = find(10, buf, i);
         size = put_part(line, size, buf, i, end);
@@ -76,15 +75,15 @@ fn answer_some(
             at = answer(out, at, lines, line, size, packet, cells, text);
             size = 0;
             if is_full(out, at) {
-                open = flush(out, at);
+                flush(to, out, at)?;
                 at = 0;
             }
         }
     }
     if 0 < at {
-        open = flush(out, at);
+        flush(to, out, at)?;
     }
-    State { size, lines, open }
+    Ok(State { size, lines })
 }
 
 fn next(n: u64) -> u64 {
@@ -93,13 +92,14 @@ fn next(n: u64) -> u64 {
 
 // The last line may lack its line feed.
 fn answer_last(
+    to: &mut Stdout,
     before: State,
     line: &[u8],
     packet: &mut [u8],
     cells: &mut [u64],
     text: &mut [u8],
     out: &mut [u8],
-)
+) -> io::Result<()>
     requires { 2048 ≤ length packet.old }
 {
     if 0 < before.size {
@@ -113,40 +113,47 @@ fn answer_last(
             cells,
             text,
         );
-        flush(out, at);
+        flush(to, out, at)?;
     }
+    Ok(())
 }
 
-// A proved loop has to end, and nothing says that the input does: it counts its turns down, from a number that no run uses up.
+// A proved loop has to end, and nothing says that the input does: it counts its turns, up to a number that no run uses up.
 fn run(
+    from: &mut Stdin,
+    to: &mut Stdout,
     buf: &mut [u8],
     line: &mut [u8],
     packet: &mut [u8],
     cells: &mut [u64],
     text: &mut [u8],
     out: &mut [u8],
-)
+) -> io::Result<()>
     requires { 2048 ≤ length packet.old }
 {
-    let mut state = State {
-        size: 0,
-        lines: 0,
-        open: true,
-    };
-    let mut turns = u64::MAX;
-    while turns > 0 {
-        let got = libc::read(STDIN_FILENO, buf);
-        let n = io::count(got, buf);
+    let mut state = State { size: 0, lines: 0 };
+    for _ in 0..u64::MAX {
+        let n = from.read(buf)?;
         if n == 0 {
-            answer_last(state, line, packet, cells, text, out);
-            return;
+            return answer_last(to, state, line, packet, cells, text, out);
         }
-        state = answer_some(&buf[..n], state, line, packet, cells, text, out);
-        if !state.open {
-            return;
-        }
-        turns -= 1;
+        state = answer_some(to, &buf[..n], state, line, packet, cells, text, out)?;
     }
+    Ok(())
+}
+
+// 65,536 octets, for the input, a line of it and the output.
+fn large_room() -> [u8; 65536]
+    ensures { 65536 ≡ length result }
+{
+    [0; 65536]
+}
+
+// At least the most that a line's packet fills.
+fn packet_room() -> [u8; 4096]
+    ensures { 4096 ≡ length result }
+{
+    [0; 4096]
 }
 
 // Document 01 lends 8,192 cells and 8,192 octets.
@@ -162,19 +169,23 @@ fn text_room() -> [u8; 8192]
     [0; 8192]
 }
 
-fn main() {
-    let mut buf = io::large_buffer();
-    let mut out = io::large_buffer();
-    let mut line = io::large_buffer();
-    let mut packet = io::buffer();
+fn main(rt: HostRuntime) -> io::Result<()> {
+    let mut from = rt.stdin();
+    let mut to = rt.stdout();
+    let mut buf = large_room();
+    let mut out = large_room();
+    let mut line = large_room();
+    let mut packet = packet_room();
     let mut cells = cell_room();
     let mut text = text_room();
     run(
+        &mut from,
+        &mut to,
         &mut buf,
         &mut line,
         &mut packet,
         &mut cells,
         &mut text,
         &mut out,
-    );
+    )
 }
