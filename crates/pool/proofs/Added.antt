@@ -1,8 +1,8 @@
 -- A unit with no octets is added to a link of a sound store: the tables and the view.
-use Prim.Native.Nat.{ℕ, zero, suc, ◌+◌, ◌*◌, ◌-◌, ◌≤◌, ◌<◌}
+use Prim.Native.Nat.{ℕ, ◌+◌, ◌*◌, ◌≤◌, ◌<◌}
 use mathlib.Core.Path.{◌≡◌, refl, sym, ap, ap₂, ◌∙◌}
 use mathlib.Core.Logic.{◌⊎◌, inl, inr}
-use mathlib.Core.Bool.{Bool, true, false, not, ◌&&◌}
+use mathlib.Core.Bool.{Bool, true, false, not}
 use mathlib.Core.List.{List, [], ◌∷◌, ◌++◌}
 use native.Mathlib.Nat.{add-zero}
 use native.Mathlib.Numerals.{add-one}
@@ -12,22 +12,20 @@ use lib.Ieee.{Float, nan}
 use lib.ListN.{length, get_or, set, take, drop, length-set, length-append, get_or-append}
 use lib.Seq.{ext_get_or, get_or-append-add, get_or-set_same, get_or-set_other}
 use borrow.Author.Tests.{eqb-true, ltb-true, ltb-false}
-use Rattle.octets.specs.Tests.{all}
 use Rattle.octets.specs.Emit.{put}
 use Rattle.octets.proofs.Tests.{all-at, all_of, all_more}
 use Rattle.octets.proofs.Put.{put_other, put_same, length-put}
 use Rattle.model.specs.Cost.{blocks as blocksFor}
 use Rattle.chain.specs.Chain.{flat, homed}
-use Rattle.tables.specs.Tables.{links, blocks_in, reserve, cap, count, units, word, place_ok, places_ok, place_cost, costs, key_eq, key_new, keys_ok, used_of, excess_of, sum}
+use Rattle.tables.specs.Tables.{links, count, units, word, place_ok, places_ok, place_cost, costs, key_eq, key_new, keys_ok, used_of}
 use Rattle.tables.proofs.Laws.{Tables, settings, Link, place_of}
-use Rattle.pool.specs.View.{Unit, blank, Found, place_words, add_words, added_u, added, SameSettings, tab, start_of, unit_at, link_units, octets, pend}
+use Rattle.pool.specs.View.{Unit, Found, place_words, add_words, added_u, added, SameSettings, tab, start_of, unit_at, link_units, octets, pend}
 use Rattle.pool.proofs.Good.{Good}
 use Rattle.tables.proofs.Sums.{sum_same, sum-suc}
 use Rattle.pool.proofs.Tab.{tab-same, length-tab, get_or-tab}
 use Rattle.pool.proofs.Change.{SamePlace, places_same, costs-same, keys-same, Elsewhere, tables_change, excess_change, view_change, used_after}
 use Rattle.pool.proofs.Near.{own}
 use Rattle.pool.proofs.Keys.{key_of}
-use Rattle.pool.proofs.Expired.{view-long}
 
 module _ (w : List ℕ) (tm : List Float) (l : ℕ) (key : List ℕ) (note : ℕ) (at : Float) (g : Tables w) (pl : 128 ≤ length tm) (hl : l < links w) (hu : units w l < 8) (hk : length key ≡ 6) where
   abbrev u : ℕ

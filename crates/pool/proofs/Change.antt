@@ -1,23 +1,21 @@
 -- One link of a store changes: what stays.
-use Prim.Native.Nat.{ℕ, zero, suc, ◌+◌, ◌*◌, ◌-◌, ◌/◌, ◌≤◌, ◌<◌}
+use Prim.Native.Nat.{ℕ, ◌+◌, ◌*◌, ◌-◌, ◌≤◌, ◌<◌}
 use mathlib.Core.Path.{◌≡◌, refl, sym, ap, ap₂, ◌∙◌}
 use mathlib.Core.Bool.{Bool, true, false, not, ◌&&◌}
-use mathlib.Core.List.{List, [], ◌∷◌, ◌++◌}
+use mathlib.Core.List.{List}
 use native.Mathlib.Omega.{arith}
-use lib.Dec.{ltb, leb, eqb}
+use lib.Dec.{ltb, eqb}
 use lib.Ieee.{Float, nan}
 use lib.ListN.{length, get_or, set, take, drop}
 use lib.Seq.{take-take, drop-drop}
-use borrow.Author.Tests.{eqb-true, eqb-false, ltb-true, ltb-false, eq-eqb, le-leb}
-use Rattle.octets.specs.Tests.{all}
-use Rattle.octets.proofs.Tests.{all-at, all_of, and_left, and_right}
+use borrow.Author.Tests.{eqb-true, eqb-false, ltb-true, ltb-false}
+use Rattle.octets.proofs.Tests.{all-at, all_of}
 use Rattle.chain.proofs.Moves.{take-drop}
-use Rattle.model.specs.Cost.{blocks}
-use Rattle.tables.specs.Tables.{links, blocks_in, reserve, cap, count, units, word, sum, place_ok, places_ok, place_cost, costs, word_eq, key_eq, key_new, keys_ok, settings_ok, link_ok, idle, link_at, used_of, excess_of, tables_ok}
-use Rattle.tables.proofs.Laws.{Tables, Settings, settings, Place, place, Link, link, link_of_lem, link-is, idle-is}
-use Rattle.pool.specs.View.{Unit, SameSettings, tab, start_of, unit_at, link_units, octets, pend}
-use Rattle.tables.proofs.Sums.{all_same, sum_same, sum-up, sum_in, sum-suc, sum_one}
-use Rattle.pool.proofs.Tab.{tab-same, set-tab, length-tab}
+use Rattle.tables.specs.Tables.{links, blocks_in, reserve, count, units, word, place_ok, places_ok, place_cost, costs, word_eq, key_eq, key_new, keys_ok, settings_ok, idle, link_at, used_of, excess_of}
+use Rattle.tables.proofs.Laws.{Tables, settings, Place, place, Link, link, link_of_lem, link-is, idle-is}
+use Rattle.pool.specs.View.{SameSettings, tab, start_of, unit_at, link_units}
+use Rattle.tables.proofs.Sums.{all_same, sum_same, sum_in, sum_one}
+use Rattle.pool.proofs.Tab.{tab-same, set-tab}
 
 abbrev pub SamePlace : List ℕ → List ℕ → ℕ → Type 0
 SamePlace w w' q = (k : ℕ) → k < 11 → word w' q k ≡ word w q k

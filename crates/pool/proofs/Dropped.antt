@@ -1,26 +1,24 @@
 -- A unit of a sound store is taken out: the tables and the view.
-use Prim.Native.Nat.{ℕ, zero, suc, ◌+◌, ◌*◌, ◌-◌, ◌/◌, ◌≤◌, ◌<◌}
+use Prim.Native.Nat.{ℕ, zero, suc, ◌+◌, ◌*◌, ◌-◌, ◌≤◌, ◌<◌}
 use mathlib.Core.Path.{◌≡◌, refl, sym, ap, ap₂, ◌∙◌, subst}
 use mathlib.Core.Bool.{Bool, true, false, not, cond}
-use mathlib.Core.List.{List, [], ◌∷◌, ◌++◌, append_assoc}
-use native.Mathlib.Nat.{add-zero}
+use mathlib.Core.List.{List, [], ◌++◌}
 use native.Mathlib.Omega.{arith}
 use lib.Dec.{ltb, eqb}
 use lib.Ieee.{Float, nan}
-use lib.ListN.{length, get_or, set, take, drop, length-set, length-append, length-take, length-drop, get_or-append}
+use lib.ListN.{length, get_or, set, take, drop, length-set, length-append, length-drop, get_or-append}
 use lib.Seq.{get_or-set_same, get_or-set_other, get_or-append-add, get_or-take, get_or-drop, length-take-le, ext_get_or, take-append-le, drop-append-add, drop-drop, take-take}
-use borrow.Author.Tests.{eqb-true, eqb-false, ltb-true, ltb-false, lt-ltb, le-ltb, not-true}
-use Rattle.octets.specs.Tests.{all}
+use borrow.Author.Tests.{eqb-true, eqb-false, ltb-true, ltb-false, lt-ltb, le-ltb}
 use Rattle.chain.specs.Chain.{flat, homed}
 use Rattle.octets.proofs.Tests.{all-at, all_of}
 use Rattle.chain.proofs.Spelt.{spelt-long, spelt-front, spelt-behind}
 use Rattle.chain.proofs.Flat.{flat_append}
 use Rattle.shift.specs.Shift.{shifted}
 use Rattle.shift.proofs.Laws.{shifted-is}
-use Rattle.tables.specs.Tables.{links, blocks_in, reserve, cap, count, units, word, sum, place_ok, places_ok, place_cost, costs, word_eq, key_eq, key_new, keys_ok, link_at, used_of, excess_of}
+use Rattle.tables.specs.Tables.{links, blocks_in, reserve, count, units, word, sum, place_ok, places_ok, place_cost, costs, word_eq, key_eq, key_new, keys_ok, used_of, excess_of}
 use Rattle.tables.proofs.Laws.{Tables, settings, Place, place_of, Link, used_fits}
 use Rattle.pool.specs.View.{Unit, blank, SameSettings, less_words, less_times, tab, start_of, unit_at, link_units, octets, pend, without, removed}
-use Rattle.tables.proofs.Sums.{all_same, sum_same, sum-up, sum_in, sum-suc, sum_one}
+use Rattle.tables.proofs.Sums.{all_same, sum_same, sum_in, sum-suc}
 use Rattle.pool.proofs.Tab.{tab-same, length-tab, get_or-tab}
 use Rattle.pool.proofs.Change.{place_at, Elsewhere, tables_change, excess_change, view_change, used_before, used_after}
 use Rattle.pool.proofs.Good.{Good}

@@ -1,16 +1,16 @@
 -- The units of a link expire, one place after the other.
-use Prim.Native.Nat.{ℕ, zero, suc, ◌+◌, ◌*◌, ◌-◌, ◌≤◌, ◌<◌}
+use Prim.Native.Nat.{ℕ, suc, ◌+◌, ◌*◌, ◌<◌}
 use mathlib.Core.Path.{◌≡◌, refl, sym, ap, ap₂, ◌∙◌}
 use mathlib.Core.Bool.{Bool, true, false, cond}
 use mathlib.Core.List.{List, [], ◌∷◌, ◌++◌, append_assoc, append-nil}
 use native.Mathlib.Numerals.{add-one}
 use native.Mathlib.Omega.{arith}
 use lib.Ieee.{Float, nan}
-use lib.ListN.{length, get_or, set, take, drop, length-set, length-append, length-take, length-drop}
-use lib.Seq.{take-suc, drop-cons, take_all, drop-append_seam, take_at, drop_at, length-take-le, get_or-set_same, set-set, append_snoc, set-get_or, drop-length}
+use lib.ListN.{length, get_or, set, take, drop, length-set}
+use lib.Seq.{take-suc, drop-cons, take_all, take_at, drop_at, length-take-le, get_or-set_same, set-set, set-get_or, drop-length}
 use Rattle.clock.specs.Time.{fresh_t}
 use Rattle.tables.specs.Tables.{links, units}
-use Rattle.pool.specs.View.{Unit, SameSettings, blank, tab, start_of, unit_at, link_units, octets, pend, without, removed, keep_u, expired}
+use Rattle.pool.specs.View.{Unit, SameSettings, blank, start_of, unit_at, link_units, octets, pend, without, removed, keep_u, expired}
 use Rattle.pool.proofs.Tab.{length-tab, get_or-tab}
 
 -- ---- the view of a link

@@ -1,18 +1,17 @@
 -- The key of a place, tested word by word, is the key of its unit.
-use Prim.Native.Nat.{ℕ, zero, suc, ◌+◌, ◌*◌, ◌-◌, ◌≤◌, ◌<◌}
+use Prim.Native.Nat.{ℕ, ◌+◌, ◌*◌, ◌<◌}
 use mathlib.Core.Path.{◌≡◌, refl, sym, ap, ◌∙◌}
 use mathlib.Core.Bool.{Bool, true, false}
-use mathlib.Core.List.{List, [], ◌∷◌, ◌++◌}
+use mathlib.Core.List.{List, []}
 use native.Mathlib.Omega.{arith}
 use lib.Dec.{eqb, ltb}
 use lib.Ieee.{Float}
 use lib.ListN.{length, get_or}
 use lib.Seq.{ext_get_or}
 use borrow.Author.Tests.{eq-eqb, eqb-true, ltb-true, ltb-false}
-use Rattle.octets.specs.Tests.{all}
 use Rattle.octets.proofs.Tests.{all-at, all_of, no_true}
 use Rattle.tables.specs.Tables.{links, units, word}
-use Rattle.pool.specs.View.{Unit, blank, tab, start_of, unit_at, link_units, octets, pend, key_is, Found}
+use Rattle.pool.specs.View.{Unit, blank, tab, start_of, unit_at, octets, pend, key_is, Found}
 use Rattle.pool.proofs.Tab.{length-tab, get_or-tab}
 use Rattle.pool.proofs.Expired.{link-view}
 

@@ -1,23 +1,21 @@
 -- A new store: its tables are sound and no link has a unit.
 use Prim.Native.Nat.{ℕ, zero, suc, ◌+◌, ◌*◌, ◌-◌, ◌≤◌, ◌<◌}
-use mathlib.Core.Path.{◌≡◌, refl, sym, ap, ap₂, ◌∙◌}
-use mathlib.Core.Logic.{◌⊎◌, inl, inr}
-use mathlib.Core.Bool.{Bool, true, false, ◌&&◌}
-use mathlib.Core.List.{List, [], ◌∷◌, ◌++◌}
+use mathlib.Core.Path.{◌≡◌, refl, sym, ap, ◌∙◌}
+use mathlib.Core.Bool.{Bool, true, false}
+use mathlib.Core.List.{List, []}
 use native.Mathlib.Omega.{arith}
-use lib.Dec.{ltb, leb, eqb}
+use lib.Dec.{ltb, leb}
 use lib.Ieee.{Float}
 use lib.ListN.{length, get_or, set, replicate, length-set, length-replicate, get_or-replicate}
 use lib.Seq.{get_or-set_same, get_or-set_other}
 use borrow.Author.Tests.{ltb-true, ltb-false, leb-true, lt-leb, le-leb}
-use Rattle.octets.specs.Tests.{all}
 use Rattle.octets.specs.Emit.{put}
-use Rattle.octets.proofs.Tests.{all_none, all_of, and_left, and_right, and_false}
+use Rattle.octets.proofs.Tests.{all_none, all_of, and_left, and_right}
 use Rattle.octets.proofs.Put.{put_same, length-put}
 use Rattle.chain.specs.Chain.{homed}
-use Rattle.tables.specs.Tables.{links, blocks_in, reserve, cap, count, units, word, sum, places_ok, costs, keys_ok, allowed, settings_ok, link_at, idle, used_of, excess_of}
-use Rattle.tables.proofs.Laws.{Tables, settings, Link, link_of_lem, link-is, idle-is, sum-none}
-use Rattle.pool.specs.View.{Unit, fits, new_words, Made, tab, start_of, unit_at, link_units, octets, pend}
+use Rattle.tables.specs.Tables.{links, blocks_in, reserve, cap, count, units, sum, places_ok, costs, keys_ok, allowed, settings_ok, link_at, idle, used_of, excess_of}
+use Rattle.tables.proofs.Laws.{settings, link_of_lem, link-is, idle-is, sum-none}
+use Rattle.pool.specs.View.{fits, new_words, Made, tab, start_of, unit_at, link_units, octets, pend}
 use Rattle.pool.proofs.Good.{Good, good_of}
 use Rattle.pool.proofs.Tab.{tab-same}
 

@@ -1,13 +1,13 @@
 -- A unit of a sound store gets a note and a time: the tables and the view.
-use Prim.Native.Nat.{ℕ, zero, suc, ◌+◌, ◌*◌, ◌-◌, ◌≤◌, ◌<◌}
+use Prim.Native.Nat.{ℕ, ◌+◌, ◌*◌, ◌≤◌, ◌<◌}
 use mathlib.Core.Path.{◌≡◌, refl, sym, ap, ap₂, ◌∙◌}
-use mathlib.Core.List.{List, [], ◌∷◌, ◌++◌}
+use mathlib.Core.List.{List, []}
 use native.Mathlib.Omega.{arith}
 use lib.Ieee.{Float, nan}
 use lib.ListN.{length, get_or, set, take, drop, length-set}
 use lib.Seq.{get_or-set_same, get_or-set_other}
 use Rattle.chain.specs.Chain.{flat, homed}
-use Rattle.tables.specs.Tables.{links, blocks_in, reserve, cap, count, units, word, place_ok, places_ok, place_cost, costs, keys_ok, used_of, excess_of}
+use Rattle.tables.specs.Tables.{links, count, units, word, place_ok, places_ok, place_cost, costs, keys_ok, used_of}
 use Rattle.tables.proofs.Laws.{Tables, settings, Link}
 use Rattle.pool.specs.View.{Unit, blank, marked_u, marked, mark_words, SameSettings, tab, start_of, unit_at, link_units, octets, pend}
 use Rattle.pool.proofs.Good.{Good}

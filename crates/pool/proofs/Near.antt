@@ -7,11 +7,10 @@ use mathlib.Core.List.{List}
 use native.Mathlib.Nat.{suc-mul}
 use native.Mathlib.Omega.{arith}
 use lib.Dec.{eqb}
-use lib.ListN.{length, get_or}
+use lib.ListN.{length}
 use borrow.Author.Tests.{eqb-true, eqb-false}
 use Rattle.octets.proofs.Tests.{all-at}
-use Rattle.model.specs.Cost.{blocks}
-use Rattle.tables.specs.Tables.{links, blocks_in, reserve, cap, count, units, word, sum, place_cost, costs, link_at, used_of, excess_of}
+use Rattle.tables.specs.Tables.{links, blocks_in, reserve, count, units, word, sum, place_cost, costs, link_at, used_of, excess_of}
 use Rattle.tables.proofs.Laws.{Tables, settings, Place, Link, link, link-is, used_fits, above}
 use Rattle.pool.specs.View.{start_of, part_at, Room}
 use Rattle.tables.proofs.Sums.{sum-up, sum_in}

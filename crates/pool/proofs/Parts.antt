@@ -1,28 +1,27 @@
 -- A part of a unit of a sound store becomes longer or shorter: the tables and the view.
-use Prim.Native.Nat.{ℕ, zero, suc, ◌+◌, ◌*◌, ◌-◌, ◌≤◌, ◌<◌}
-use mathlib.Core.Path.{◌≡◌, refl, sym, ap, ap₂, ◌∙◌}
+use Prim.Native.Nat.{ℕ, ◌+◌, ◌*◌, ◌-◌, ◌≤◌, ◌<◌}
+use mathlib.Core.Path.{◌≡◌, refl, sym, ap, ◌∙◌}
 use mathlib.Core.Logic.{◌⊎◌, inl, inr}
 use mathlib.Core.Bool.{Bool, true, false}
-use mathlib.Core.List.{List, [], ◌∷◌, ◌++◌}
+use mathlib.Core.List.{List, [], ◌++◌}
 use native.Mathlib.Omega.{arith}
 use lib.Dec.{ltb, eqb}
-use lib.Ieee.{Float, nan}
+use lib.Ieee.{Float}
 use lib.ListN.{length, get_or, set, take, drop, length-set}
 use lib.Seq.{get_or-set_same, get_or-set_other, take-take}
 use borrow.Author.Tests.{eqb-true, eqb-false, ltb-true, ltb-false}
-use Rattle.octets.proofs.Tests.{all-at, all_of}
+use Rattle.octets.proofs.Tests.{all_of}
 use Rattle.model.specs.Cost.{blocks}
 use Rattle.chain.specs.Chain.{Spliced, flat, homed}
 use Rattle.chain.proofs.Moves.{take-drop}
-use Rattle.chain.proofs.Spelt.{spelt-long}
-use Rattle.tables.specs.Tables.{links, blocks_in, reserve, cap, count, units, word, sum, place_ok, places_ok, place_cost, costs, keys_ok, link_at, used_of, excess_of}
-use Rattle.tables.proofs.Laws.{Tables, settings, Place, place_of, Link, used_fits}
-use Rattle.pool.specs.View.{Unit, blank, unit_of, with_unit, body_from, top_from, part_from, part_at, splice_words, spliced, SameSettings, Room, tab, start_of, unit_at, link_units, octets, pend}
+use Rattle.tables.specs.Tables.{links, blocks_in, reserve, cap, count, units, word, place_ok, places_ok, place_cost, costs, keys_ok, used_of, excess_of}
+use Rattle.tables.proofs.Laws.{Tables, settings, Place, place_of, Link}
+use Rattle.pool.specs.View.{Unit, blank, part_from, part_at, splice_words, spliced, SameSettings, Room, tab, start_of, unit_at, link_units, octets, pend}
 use Rattle.pool.proofs.Good.{Good}
 use Rattle.tables.proofs.Sums.{sum_in, sum_one}
 use Rattle.pool.proofs.Tab.{tab-same, set-tab, get_or-tab}
 use Rattle.pool.proofs.Change.{SamePlace, place_same, cost-same, costs-same, keys-kept-by, place_at, Elsewhere, tables_change, excess_change, view_change, used_before, used_after}
-use Rattle.pool.proofs.Near.{two, own, inside, link-inside, Near, near, Sizes, sizes}
+use Rattle.pool.proofs.Near.{two, own, inside, link-inside}
 
 -- from equal fronts, equal parts
 pub part_of : (x y : List ℕ) (o n : ℕ) → take (o + n) x ≡ take (o + n) y → take n (drop o x) ≡ take n (drop o y)

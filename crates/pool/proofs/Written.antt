@@ -1,10 +1,9 @@
 -- Octets are written inside a part of a unit of a sound store.
-use Prim.Native.Nat.{ℕ, zero, suc, ◌+◌, ◌*◌, ◌-◌, ◌≤◌, ◌<◌}
+use Prim.Native.Nat.{ℕ, ◌+◌, ◌*◌, ◌-◌, ◌≤◌, ◌<◌}
 use mathlib.Core.Path.{◌≡◌, refl, sym, ap, ap₂, ◌∙◌}
 use mathlib.Core.Logic.{◌⊎◌, inl, inr}
 use mathlib.Core.Bool.{Bool, true, false}
-use mathlib.Core.List.{List, [], ◌∷◌, ◌++◌}
-use native.Mathlib.Nat.{add-zero}
+use mathlib.Core.List.{List, []}
 use native.Mathlib.Omega.{arith}
 use lib.Dec.{ltb}
 use lib.Ieee.{Float}
@@ -16,13 +15,13 @@ use Rattle.chain.proofs.Spelt.{spelt-long}
 use Rattle.chain.proofs.Spliced.{put_front, put-behind}
 use Rattle.chain.proofs.Window.{window_before, window_behind, window_over}
 use Rattle.tables.specs.Tables.{links, blocks_in, count, units, word, place_cost, costs, used_of}
-use Rattle.tables.proofs.Laws.{Tables, Place, used_fits}
+use Rattle.tables.proofs.Laws.{Place, used_fits}
 use Rattle.pool.specs.View.{Unit, blank, part_at, part_put, written, tab, start_of, unit_at, link_units, octets, pend}
 use Rattle.pool.proofs.Good.{Good}
 use Rattle.tables.proofs.Sums.{sum_in}
 use Rattle.pool.proofs.Tab.{set-tab, get_or-tab}
 use Rattle.pool.proofs.Change.{place_at, Elsewhere, view_change}
-use Rattle.pool.proofs.Near.{two, own, inside, link-inside, Ready, ready, sizes}
+use Rattle.pool.proofs.Near.{two, own, inside, Ready, ready, sizes}
 use Rattle.pool.proofs.Expired.{settings-refl}
 
 module _ (w : List ℕ) (tm : List Float) (list home bs : List ℕ) (l j part o : ℕ) (src : List ℕ) (g : Good w tm list home bs) (hl : l < links w) (hj : j < units w l) (h2 : part < 2)

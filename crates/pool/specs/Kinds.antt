@@ -1,5 +1,5 @@
 -- A store of one kind. The pool knows no packets: the kind's number, its own test of a unit and how it reads one are parameters.
-use Rattle.std.specs.Prelude.{ℕ, ◌+◌, ◌*◌, ◌≤◌, ◌<◌, ◌≡◌, Bool, true, false, cond, ◌&&◌, List, [], ◌∷◌, ◌++◌, eqb, ltb, Float, length, get_or, set}
+use Rattle.std.specs.Prelude.{ℕ, ◌+◌, ◌*◌, ◌≤◌, ◌<◌, ◌≡◌, Bool, true, cond, ◌&&◌, List, [], ◌∷◌, ◌++◌, eqb, ltb, Float, length, get_or, set}
 use Rattle.model.specs.Kind.{Kind}
 use Rattle.model.specs.Store.{Settings, Pend}
 use Rattle.chain.specs.Chain.{homed}

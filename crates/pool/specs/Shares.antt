@@ -1,5 +1,5 @@
 -- The share rules, on the pending units.
-use Rattle.std.specs.Prelude.{ℕ, zero, suc, ◌+◌, ◌*◌, ◌-◌, ◌≤◌, ◌<◌, ◌≡◌, cond, List, [], ◌∷◌, ◌++◌, ltb, length, get_or, set}
+use Rattle.std.specs.Prelude.{ℕ, ◌+◌, ◌*◌, ◌-◌, ◌≤◌, ◌<◌, ◌≡◌, cond, List, [], ◌∷◌, ltb, length, get_or, set}
 use Rattle.model.specs.Cost.{blocks, unit_cost}
 use Rattle.pool.specs.View.{Unit, blank}
 

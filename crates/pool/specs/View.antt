@@ -1,10 +1,9 @@
 -- What a store's tables, chains and octets spell, and when they are sound.
-use Rattle.std.specs.Prelude.{ℕ, zero, suc, ◌+◌, ◌*◌, ◌-◌, ◌≤◌, ◌<◌, ◌≡◌, Bool, true, false, cond, ◌&&◌, List, [], ◌∷◌, ◌++◌, leb, ltb, eqb, Float, length, get_or, set, take, drop, replicate}
+use Rattle.std.specs.Prelude.{ℕ, zero, suc, ◌+◌, ◌*◌, ◌-◌, ◌≤◌, ◌<◌, ◌≡◌, Bool, true, cond, ◌&&◌, List, [], ◌∷◌, ◌++◌, leb, ltb, eqb, Float, length, get_or, set, take, drop, replicate}
 use Rattle.std.specs.Float.{nan}
 use Rattle.clock.specs.Time.{fresh_t}
 use Rattle.octets.specs.Tests.{all}
 use Rattle.octets.specs.Emit.{put}
-use Rattle.model.specs.Cost.{blocks}
 use Rattle.chain.specs.Chain.{homed, flat}
 use Rattle.shift.specs.Shift.{shifted}
 use Rattle.tables.specs.Tables.{links, blocks_in, reserve, cap, count, units, word, place_cost, costs, used_of, excess_of, allowed, tables_ok}

@@ -32,7 +32,10 @@ loop-u-init c =
 
 pub remove-requires : goal.remove-requires
 remove-requires c =
-    let p = c in (p.loop-u.invariant.4, (omega (arith, c.requires.l_bound, p.loop-u.invariant.5.on-links), omega (arith, p.loop-u.invariant.6)))
+    let p = c in record {
+      blocks_value = p.loop-u.invariant.4;
+      l_bound = (omega (arith, c.requires.l_bound, p.loop-u.invariant.5.on-links), omega (arith, p.loop-u.invariant.6));
+    }
 
 pub loop-u-preserved : goal.loop-u-preserved
 loop-u-preserved c =
@@ -41,16 +44,16 @@ loop-u-preserved c =
     let d = c.remove in
     let st₀ = pend a.words.now a.times.now a.list.now a.blocks.now in
     let hl : a.l < length st₀ = omega (arith, c.requires.l_bound, pend-long a.words.now a.times.now a.list.now a.blocks.now) in
-    let e : units d.new.0 a.l ≡ units p.loop-u.words a.l - 1 = d.ensures.1.1.1 in
-    let n : p.loop-u.u - 1 ≡ units d.new.0 a.l = omega (arith, i.6, e) in (
-      d.auto.0 ∙ i.0,
-      d.auto.1.0 ∙ i.1,
-      d.auto.1.1.0 ∙ i.2,
-      d.auto.1.1.1.0 ∙ i.3,
-      d.ensures.0,
-      settings_trans a.words.now p.loop-u.words d.new.0 i.5 d.ensures.1.1.0,
+    let e : units d.new.words a.l ≡ units p.loop-u.words a.l - 1 = d.ensures.l_after in
+    let n : p.loop-u.u - 1 ≡ units d.new.words a.l = omega (arith, i.6, e) in (
+      d.auto.words ∙ i.0,
+      d.auto.times ∙ i.1,
+      d.auto.list ∙ i.2,
+      d.auto.home ∙ i.3,
+      d.ensures.blocks_after,
+      settings_trans a.words.now p.loop-u.words d.new.words i.5 d.ensures.same_settings,
       n,
-      only-less st₀ (pend p.loop-u.words p.loop-u.times p.loop-u.list a.blocks.now) a.l hl i.7 (pend d.new.0 d.new.1.0 d.new.1.1.0 a.blocks.now) (p.loop-u.u - 1) d.ensures.1.0,
+      only-less st₀ (pend p.loop-u.words p.loop-u.times p.loop-u.list a.blocks.now) a.l hl i.7 (pend d.new.words d.new.times d.new.list a.blocks.now) (p.loop-u.u - 1) d.ensures.blocks_after_2,
     )
 
 pub shape_of-words : goal.shape_of-words

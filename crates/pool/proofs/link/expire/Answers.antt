@@ -20,29 +20,26 @@ st-near : (c : Start) → Near c.args.words.now c.args.l 0
 st-near c = near c.args.words.now c.args.l 0 (st-good c).tab c.requires.l_bound (omega arith)
 
 module _ (c : At-loop-j) where
-  abbrev st : tie.Start invariant-loop decreases-loop
-  st = c
+  gd : Good c.loop-j.words c.loop-j.times c.loop-j.list c.loop-j.home c.args.blocks.now
+  gd = good c.loop-j.words c.loop-j.times c.loop-j.list c.loop-j.home c.args.blocks.now c.loop-j.invariant.4
 
-  gd : Good c.loop-j.words c.loop-j.times c.loop-j.list c.loop-j.home st.args.blocks.now
-  gd = good c.loop-j.words c.loop-j.times c.loop-j.list c.loop-j.home st.args.blocks.now c.loop-j.invariant.4
+  lk : c.args.l < links c.loop-j.words
+  lk = omega (arith, c.requires.l_bound, c.loop-j.invariant.5.on-links)
 
-  lk : st.args.l < links c.loop-j.words
-  lk = omega (arith, st.pre, c.loop-j.invariant.5.on-links)
-
-  nr : Near c.loop-j.words st.args.l 0
-  nr = near c.loop-j.words st.args.l 0 gd.tab lk (omega arith)
+  nr : Near c.loop-j.words c.args.l 0
+  nr = near c.loop-j.words c.args.l 0 gd.tab lk (omega arith)
 
   pl : 128 ≤ length c.loop-j.times
   pl = gd.places
 
-  lng : length (get_or (pend c.loop-j.words c.loop-j.times c.loop-j.list st.args.blocks.now) st.args.l []) ≡ c.loop-j.u
-  lng = view-long c.loop-j.words c.loop-j.times c.loop-j.list st.args.blocks.now st.args.l lk ∙ sym c.loop-j.invariant.6
+  lng : length (get_or (pend c.loop-j.words c.loop-j.times c.loop-j.list c.args.blocks.now) c.args.l []) ≡ c.loop-j.u
+  lng = view-long c.loop-j.words c.loop-j.times c.loop-j.list c.args.blocks.now c.args.l lk ∙ sym c.loop-j.invariant.6
 
-  tm : c.loop-j.j < c.loop-j.u → (get_or (get_or (pend c.loop-j.words c.loop-j.times c.loop-j.list st.args.blocks.now) st.args.l []) c.loop-j.j blank).time ≡ get_or c.loop-j.times (8 * st.args.l + c.loop-j.j) nan
-  tm h = view-time c.loop-j.words c.loop-j.times c.loop-j.list st.args.blocks.now st.args.l lk c.loop-j.j (omega (arith, c.loop-j.invariant.6, h))
+  tm : c.loop-j.j < c.loop-j.u → (get_or (get_or (pend c.loop-j.words c.loop-j.times c.loop-j.list c.args.blocks.now) c.args.l []) c.loop-j.j blank).time ≡ get_or c.loop-j.times (8 * c.args.l + c.loop-j.j) nan
+  tm h = view-time c.loop-j.words c.loop-j.times c.loop-j.list c.args.blocks.now c.args.l lk c.loop-j.j (omega (arith, c.loop-j.invariant.6, h))
 
-  ln0 : st.args.l < length (pend st.args.words.now st.args.times.now st.args.list.now st.args.blocks.now)
-  ln0 = omega (arith, st.pre.1, pend-long st.args.words.now st.args.times.now st.args.list.now st.args.blocks.now)
+  ln0 : c.args.l < length (pend c.args.words.now c.args.times.now c.args.list.now c.args.blocks.now)
+  ln0 = omega (arith, c.requires.l_bound, pend-long c.args.words.now c.args.times.now c.args.list.now c.args.blocks.now)
 
 pub overflow_add-u : goal.overflow_add-u
 overflow_add-u c = omega (arith, st-near (goal.at.overflow_add-u c).Start)
@@ -59,20 +56,21 @@ loop-j-init c =
     (refl, refl, refl, refl, c.requires.blocks_value, settings-refl a.words.now, refl, omega arith, going_start a.at (pend a.words.now a.times.now a.list.now a.blocks.now) a.l)
 
 pub overflow_mul-l : goal.overflow_mul-l
-overflow_mul-l c = omega (arith, nr c, c.loop-j.invariant.6)
+overflow_mul-l c = omega (arith, nr (goal.at.overflow_mul-l c).At-loop-j, c.loop-j.invariant.6)
 
 pub overflow_add-l : goal.overflow_add-l
-overflow_add-l c = omega (arith, nr c, c.loop-j.invariant.6)
+overflow_add-l c = omega (arith, nr (goal.at.overflow_add-l c).At-loop-j, c.loop-j.invariant.6)
 
 pub place_at-q-requires : goal.place_at-q-requires
-place_at-q-requires c = omega (arith, nr c, pl c, c.loop-j.invariant.6)
+place_at-q-requires c = omega (arith, nr (goal.at.place_at-q-requires c).At-loop-j, pl (goal.at.place_at-q-requires c).At-loop-j, c.loop-j.invariant.6)
 
 pub overflow_add-j : goal.overflow_add-j
-overflow_add-j c = omega (arith, nr c, c.loop-j.invariant.6)
+overflow_add-j c = omega (arith, nr (goal.at.overflow_add-j c).At-loop-j, c.loop-j.invariant.6)
 
 pub loop-j-preserved-then-fresh : goal.loop-j-preserved-then-fresh
 loop-j-preserved-then-fresh c =
-    let p = c in let i = p.loop-j.invariant in
+    let p = (goal.at.loop-j-preserved-then-fresh c).At-loop-j in
+    let i = p.loop-j.invariant in
     let a = c.args in (
       i.0,
       i.1,
@@ -87,26 +85,31 @@ loop-j-preserved-then-fresh c =
     )
 
 pub remove-requires : goal.remove-requires
-remove-requires c = (c.loop-j.invariant.4, (lk c, omega (arith, c.loop-j.invariant.6)))
+remove-requires c =
+    record {
+      blocks_value = c.loop-j.invariant.4;
+      l_bound = (lk (goal.at.remove-requires c).At-loop-j, omega (arith, c.loop-j.invariant.6));
+    }
 
 pub loop-j-preserved : goal.loop-j-preserved
 loop-j-preserved c =
-    let p = c in let i = p.loop-j.invariant in
+    let p = (goal.at.loop-j-preserved c).At-loop-j in
+    let i = p.loop-j.invariant in
     let a = c.args in
     let d = c.remove in
     let tk : p.loop-j.j < p.loop-j.u = c.loop-j-test.true in
-    let e : units d.new.0 a.l ≡ units p.loop-j.words a.l - 1 = d.ensures.1.1.1 in
-    let n : p.loop-j.u - 1 ≡ units d.new.0 a.l = omega (arith, i.6) in (
-      d.auto.0 ∙ i.0,
-      d.auto.1.0 ∙ i.1,
-      d.auto.1.1.0 ∙ i.2,
-      d.auto.1.1.1.0 ∙ i.3,
-      d.ensures.0,
-      settings_trans a.words.now p.loop-j.words d.new.0 i.5 d.ensures.1.1.0,
+    let e : units d.new.words a.l ≡ units p.loop-j.words a.l - 1 = d.ensures.l_after in
+    let n : p.loop-j.u - 1 ≡ units d.new.words a.l = omega (arith, i.6) in (
+      d.auto.words ∙ i.0,
+      d.auto.times ∙ i.1,
+      d.auto.list ∙ i.2,
+      d.auto.home ∙ i.3,
+      d.ensures.blocks_after,
+      settings_trans a.words.now p.loop-j.words d.new.words i.5 d.ensures.same_settings,
       n,
       omega arith,
       going_stale a.at (pend a.words.now a.times.now a.list.now a.blocks.now) (pend p.loop-j.words p.loop-j.times p.loop-j.list a.blocks.now) a.l p.loop-j.j (ln0 p) i.8
-          (pend d.new.0 d.new.1.0 d.new.1.1.0 a.blocks.now) d.ensures.1.0 (omega (arith, lng p))
+          (pend d.new.words d.new.times d.new.list a.blocks.now) d.ensures.blocks_after_2 (omega (arith, lng p))
           (ap (fresh_t a.at) (tm p c.loop-j-test.true ∙ sym c.place_at-q.ensures.time_value) ∙ sym c.fresh.ensures ∙ c.if-fresh.false),
     )
 
@@ -124,7 +127,8 @@ shape_of-home c = c.loop-j.invariant.3
 
 pub returns : goal.returns
 returns c =
-    let p = c in let i = p.loop-j.invariant in
+    let p = (goal.at.returns c).At-loop-j in
+    let i = p.loop-j.invariant in
     let a = c.args in
     record {
       blocks_after = i.4;

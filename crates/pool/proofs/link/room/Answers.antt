@@ -59,8 +59,8 @@ judged : (c : After-over_of-e) →
 judged c =
     let s = c in let w = s.args.words.now in
     let t = tables w s.requires.0 in
-    ap (λ (y : ℕ). y + (count w s.args.l - reserve w)) (c.over_of-e.ensures ∙ ap (over (reserve w)) (changed c))
-    ∙ over-after w t.set t.each s.args.l (count w s.args.l + s.args.n - s.args.k) (bd s).low-link (omega (arith, t.long))
+    ap (λ (y : ℕ). y + (count w s.args.l - reserve w)) (c.over_of-e.ensures ∙ ap (over (reserve w)) (c.recounted.ensures ∙ ap (λ (g : List ℕ). set g s.args.l (count w s.args.l + s.args.n - s.args.k)) c.ledger_of.ensures))
+    ∙ over-after w t.set t.each s.args.l (count w s.args.l + s.args.n - s.args.k) (near w s.args.l 0 t s.requires.1 (omega arith)).low-link (omega (arith, t.long))
 
 pub overflow_add-l : goal.overflow_add-l
 overflow_add-l c = omega (arith, bd (goal.at.overflow_add-l c).Start)

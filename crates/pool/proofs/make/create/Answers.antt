@@ -89,7 +89,7 @@ pub returns : goal.returns
 returns c =
     let a = c.args in
     let list' : List ℕ = c.in_order.new.list in
-    let e = last-test a.words.now a.times.now list' a.home.now a.blocks.now a.n a.b a.r a.c (sym c.settings_allowed.ensures ∙ c.if-not-settings_allowed.false) c.if-words-lt1576.false c.if-times-lt128.false (omega (arith, c.in_order.auto.0, c.if-list-m.false)) c.if-home-m.false ∙ le-leb (64 * a.b) (length a.blocks.now) c.if-blocks-m.false in
+    let e = last-test a.words.now a.times.now list' a.home.now a.blocks.now a.n a.b a.r a.c (sym c.settings_allowed.ensures ∙ c.if-not-settings_allowed.false) c.if-words-lt1576.false c.if-times-lt128.false (omega (arith, c.in_order.auto.list, c.if-list-m.false)) c.if-home-m.false ∙ le-leb (64 * a.b) (length a.blocks.now) c.if-blocks-m.false in
     let s = c.set_new.ensures in record {
       value = sym e;
       words_after = s;

@@ -32,8 +32,8 @@ pub loop-k-preserved : goal.loop-k-preserved
 loop-k-preserved c =
     let x = c.loop-k in
     let a = c.args in
-    let long : length a.t4.key ≡ 6 = search rules in
-    (omega arith, ap (λ (l : List ℕ). set l (40 + 12 * a.p + x.k) (get_or a.t4.key x.k 0)) x.invariant.1 ∙ put_next a.words.now a.t4.key (40 + 12 * a.p) x.k 0 (omega arith), simp length-set x.invariant.2)
+    let long : length a.q.key ≡ 6 = search rules in
+    (omega arith, ap (λ (l : List ℕ). set l (40 + 12 * a.p + x.k) (get_or a.q.key x.k 0)) x.invariant.1 ∙ put_next a.words.now a.q.key (40 + 12 * a.p) x.k 0 (omega arith), simp length-set x.invariant.2)
 
 pub bounds-words-at-2 : goal.bounds-words-at-2
 bounds-words-at-2 c = omega (arith, c.loop-k.invariant.2)
@@ -57,10 +57,10 @@ pub returns : goal.returns
 returns c =
     let a = c.args in
     let l = c.loop-k in
-    let long : length a.t4.key ≡ 6 = search rules in
+    let long : length a.q.key ≡ 6 = search rules in
     let six : l.k ≡ 6 = omega arith in
-    let whole : l.words ≡ put a.words.now (40 + 12 * a.p) a.t4.key = l.invariant.1 ∙ ap (λ (k : ℕ). put a.words.now (40 + 12 * a.p) (take k a.t4.key)) six ∙ ap (put a.words.now (40 + 12 * a.p)) (take_all 6 a.t4.key (omega arith)) in
+    let whole : l.words ≡ put a.words.now (40 + 12 * a.p) a.q.key = l.invariant.1 ∙ ap (λ (k : ℕ). put a.words.now (40 + 12 * a.p) (take k a.q.key)) six ∙ ap (put a.words.now (40 + 12 * a.p)) (take_all 6 a.q.key (omega arith)) in
     record {
-      words_after = ap (λ (x : List ℕ). tail-set x (40 + 12 * a.p) a.t4.note a.t4.body a.t4.top a.t4.bodyblocks a.t4.topblocks) whole ∙ tail a.words.now a.t4.key (40 + 12 * a.p) a.t4.note a.t4.body a.t4.top a.t4.bodyblocks a.t4.topblocks long;
+      words_after = ap (λ (x : List ℕ). tail-set x (40 + 12 * a.p) a.q.note a.q.body a.q.top a.q.bodyblocks a.q.topblocks) whole ∙ tail a.words.now a.q.key (40 + 12 * a.p) a.q.note a.q.body a.q.top a.q.bodyblocks a.q.topblocks long;
       times_after = refl;
     }

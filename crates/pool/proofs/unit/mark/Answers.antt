@@ -44,11 +44,11 @@ returns c =
     let g = gd (goal.at.returns c).Start in
     let h = s.requires.l_bound in
     let q = c.place_at-q.ensures in
-    let e : c.set_place.new.words ≡ mark_words w a.l a.j a.note = marked_words w _ _ (8 * a.l + a.j) a.note _ _ _ _ (omega (arith, rd (goal.at.returns c).Start)) q.0 q.1.1.0 q.1.1.1.0 q.1.1.1.1.0 q.1.1.1.1.1.0 c.set_place.ensures.words_after in
+    let e : c.set_place.new.words ≡ mark_words w a.l a.j a.note = marked_words w _ _ (8 * a.l + a.j) a.note _ _ _ _ (omega (arith, rd (goal.at.returns c).Start)) q.key_value q.body_value q.top_value q.bodyblocks_value q.topblocks_value c.set_place.ensures.words_after in
     let f : c.set_place.new.times ≡ set tm (8 * a.l + a.j) a.at = c.set_place.ensures.times_after in record {
       blocks_after = ap₂ (λ (x : List ℕ) (y : List Float). sound x y a.list.now a.home.now a.blocks.now) e f
           ∙ good_of _ _ _ _ _ (marked-good w tm a.list.now a.home.now a.blocks.now a.l a.j a.note a.at g h.0 h.1);
       blocks_after_2 = ap₂ (λ (x : List ℕ) (y : List Float). pend x y a.list.now a.blocks.now) e f
-            ∙ marked-pend w tm a.list.now a.home.now a.blocks.now a.l a.j a.note a.at g h.0 h.1;
+          ∙ marked-pend w tm a.list.now a.home.now a.blocks.now a.l a.j a.note a.at g h.0 h.1;
       same_settings = subst (λ (x : List ℕ). SameSettings w x) (sym e) (mark_settings w tm a.l a.j a.note a.at g.tab g.places h.0 h.1);
     }

@@ -84,8 +84,8 @@ returns c =
     ap (λ (i : ℕ). take i list') (sym n) ∙ c.release.ensures.0
     ∙ parts list c.start_of-s.result (start_of w a.l a.j) c.place_cost-k.result k c.all_used-m.result (used_of w (links w)) st kk u in
     let ch : homed home' list' (blocks_in w) (used_of w (links w) - k) ≡ true = ap (homed home' list' (blocks_in w)) (sym n) ∙ c.release.ensures.1 in
-    let good' = less-good w tm list a.home.now a.blocks.now list' home' a.l a.j g p.0 p.1 c.release.auto.0 c.release.auto.1.0 rl ch in
-    let pend' = less-pend w tm list a.home.now a.blocks.now list' home' a.l a.j g p.0 p.1 c.release.auto.0 c.release.auto.1.0 rl ch in record {
+    let good' = less-good w tm list a.home.now a.blocks.now list' home' a.l a.j g p.0 p.1 c.release.auto.list c.release.auto.home rl ch in
+    let pend' = less-pend w tm list a.home.now a.blocks.now list' home' a.l a.j g p.0 p.1 c.release.auto.list c.release.auto.home rl ch in record {
       blocks_after = ap₂ (λ (v : List ℕ) (t : List Float). sound v t list' home' a.blocks.now) e.0 e.1 ∙ good_of _ _ _ _ _ good';
       blocks_after_2 = ap₂ (λ (v : List ℕ) (t : List Float). pend v t list' a.blocks.now) e.0 e.1 ∙ pend';
       same_settings = subst (λ (v : List ℕ). SameSettings w v) (sym e.0) (less-settings w tm a.l a.j g.tab g.places p.0 p.1);

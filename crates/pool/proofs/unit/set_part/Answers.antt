@@ -12,7 +12,7 @@ pub set_count-requires : goal.set_count-requires
 set_count-requires c = (c.requires.0, simp length-set (omega arith))
 
 pub shape_of-words : goal.shape_of-words
-shape_of-words c = c.set_count.auto.0 ∙ simp length-set
+shape_of-words c = c.set_count.auto.words ∙ simp length-set
 
 pub returns : goal.returns
 returns c =

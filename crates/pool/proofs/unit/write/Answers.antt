@@ -70,11 +70,11 @@ returns c =
     let p = s.requires.l_bound in
     let w = a.words.now in
     let list = a.list.now in
-    let bs' = c.write_at.new.1.0 in
+    let bs' = c.write_at.new.blocks in
     let u = c.all_used-m.ensures in
     let e = begins s.args.words.now s.args.l s.args.j s.args.part c.start_of-s.result c.part_start-a.result c.start_of-s.ensures.0 c.part_start-a.ensures in
     let wr : flat bs' (take (used_of w (links w)) list) ≡ put (octets w list a.blocks.now) (64 * (start_of w a.l a.j + part_at w (8 * a.l + a.j) a.part) + a.o) a.src.now =
     ap (λ (m : ℕ). flat bs' (take m list)) (sym u) ∙ c.write_at.ensures ∙ ap₂ (λ (m q : ℕ). put (flat a.blocks.now (take m list)) (64 * q + a.o) a.src.now) u e in record {
-      blocks_after = good_of _ _ _ _ _ (written-good w a.times.now list a.home.now a.blocks.now a.l a.j a.part a.o a.src.now (gd (goal.at.returns c).Start) p.0 p.1 p.2 p.3 bs' c.write_at.auto.1.0 wr);
-      blocks_after_2 = written-pend w a.times.now list a.home.now a.blocks.now a.l a.j a.part a.o a.src.now (gd (goal.at.returns c).Start) p.0 p.1 p.2 p.3 bs' c.write_at.auto.1.0 wr;
+      blocks_after = good_of _ _ _ _ _ (written-good w a.times.now list a.home.now a.blocks.now a.l a.j a.part a.o a.src.now (gd (goal.at.returns c).Start) p.0 p.1 p.2 p.3 bs' c.write_at.auto.blocks wr);
+      blocks_after_2 = written-pend w a.times.now list a.home.now a.blocks.now a.l a.j a.part a.o a.src.now (gd (goal.at.returns c).Start) p.0 p.1 p.2 p.3 bs' c.write_at.auto.blocks wr;
     }

@@ -19,7 +19,7 @@ gd : (c : Start) → Good c.args.words.now c.args.times.now c.args.list.now c.ar
 gd c = good c.args.words.now c.args.times.now c.args.list.now c.args.home.now c.args.blocks.now c.requires.blocks_value
 
 rd : (c : Start) → Ready c.args.words.now c.args.l c.args.j c.args.part
-rd c = ready c.args.words.now c.args.l c.args.j c.args.part (gd c).tab c.requires.l_bound.0.0 c.requires.l_bound.0.1 c.requires.l_bound.0.2
+rd c = ready c.args.words.now c.args.l c.args.j c.args.part (gd c).tab c.requires.l_bound.0 c.requires.l_bound.1 c.requires.l_bound.2
 
 pub bounds-words-2 : goal.bounds-words-2
 bounds-words-2 c = omega (arith, rd (goal.at.bounds-words-2 c).Start)
@@ -31,7 +31,7 @@ all_used-m-requires c =
 
 pub start_of-s-requires : goal.start_of-s-requires
 start_of-s-requires c =
-    let s = c in (tables_of s.args.words.now (gd (goal.at.start_of-s-requires c).Start).tab, s.requires.l_bound.0.0, omega (arith, s.requires.l_bound.0))
+    let s = c in (tables_of s.args.words.now (gd (goal.at.start_of-s-requires c).Start).tab, s.requires.l_bound.0, omega (arith, s.requires.l_bound))
 
 pub overflow_mul-l : goal.overflow_mul-l
 overflow_mul-l c = omega (arith, rd (goal.at.overflow_mul-l c).Start)
@@ -57,19 +57,19 @@ pub overflow_add-k-2 : goal.overflow_add-k-2
 overflow_add-k-2 c = omega (arith, rd (goal.at.overflow_add-k-2 c).Start)
 
 pub overflow_add-k-4 : goal.overflow_add-k-4
-overflow_add-k-4 c = omega (arith, rd (goal.at.overflow_add-k-4 c).Start, c.requires.l_bound.0)
+overflow_add-k-4 c = omega (arith, rd (goal.at.overflow_add-k-4 c).Start, c.requires.l_bound)
 
 pub offset_bounds-words-l : goal.offset_bounds-words-l
-offset_bounds-words-l c = omega (arith, rd (goal.at.offset_bounds-words-l c).Start, c.requires.l_bound.0)
+offset_bounds-words-l c = omega (arith, rd (goal.at.offset_bounds-words-l c).Start, c.requires.l_bound)
 
 pub bounds-words-l : goal.bounds-words-l
-bounds-words-l c = omega (arith, rd (goal.at.bounds-words-l c).Start, c.requires.l_bound.0)
+bounds-words-l c = omega (arith, rd (goal.at.bounds-words-l c).Start, c.requires.l_bound)
 
 pub overflow_add-x : goal.overflow_add-x
-overflow_add-x c = omega (arith, rd (goal.at.overflow_add-x c).Start, (rd (goal.at.overflow_add-x c).Start).size, c.requires.l_bound.0)
+overflow_add-x c = omega (arith, rd (goal.at.overflow_add-x c).Start, (rd (goal.at.overflow_add-x c).Start).size, c.requires.l_bound)
 
 pub overflow_add-n : goal.overflow_add-n
-overflow_add-n c = omega (arith, rd (goal.at.overflow_add-n c).Start, c.requires.l_bound.0)
+overflow_add-n c = omega (arith, rd (goal.at.overflow_add-n c).Start, c.requires.l_bound)
 
 pub splice_zeros-requires : goal.splice_zeros-requires
 splice_zeros-requires c =
@@ -79,15 +79,16 @@ splice_zeros-requires c =
     let r = rd (goal.at.splice_zeros-requires c).Start in
     let u = c.all_used-m.ensures in
     let at = begins s.args.words.now s.args.l s.args.j s.args.part c.start_of-s.result c.part_start-a.result c.start_of-s.ensures.0 c.part_start-a.ensures in
-    let f = room_fits w a.l (word w (8 * a.l + a.j) (9 + a.part)) (blocksFor (a.d + a.z)) g.tab s.requires.l_bound.0.0 r.counted s.requires.l_bound.1 in (
-      (omega (arith, u, at, r.inside), omega (arith, u, f), omega (arith, u, r.close.fits), r.close.few-blocks, g.listed, g.homes, ap (homed a.home.now a.list.now (blocks_in w)) u ∙ g.chain),
-      (g.room, omega (arith, r.filled, s.requires.l_bound.0), omega arith),
-    )
+    let f = room_fits w a.l (word w (8 * a.l + a.j) (9 + a.part)) (blocksFor (a.d + a.z)) g.tab s.requires.l_bound.0 r.counted s.requires.room in
+    record {
+      k_bound = (omega (arith, u, at, r.inside), omega (arith, u, f), omega (arith, u, r.close.fits), r.close.few-blocks, g.listed, g.homes, ap (homed a.home.now a.list.now (blocks_in w)) u ∙ g.chain);
+      b_in_bounds = (g.room, omega (arith, r.filled, s.requires.l_bound), omega arith);
+    }
 
 pub set_part-requires : goal.set_part-requires
 set_part-requires c =
     let s = c in let r = rd (goal.at.set_part-requires c).Start in
-    (r.close.low-link, r.low, s.requires.l_bound.0.2, r.close.long, r.counted, omega (arith, r.close.counted, r.filled, s.requires.l_bound.0, r.counted))
+    (r.close.low-link, r.low, s.requires.l_bound.2, r.close.long, r.counted, omega (arith, r.close.counted, r.filled, s.requires.l_bound, r.counted))
 
 pub returns : goal.returns
 returns c =
@@ -113,12 +114,12 @@ returns c =
     let ch' : homed home' list' (blocks_in w) (used_of w (links w) + n' - k) ≡ true = subst (λ (q : ℕ). homed home' list' (blocks_in w) (used_of w (links w) + q - k) ≡ true) nn ch in
     let sp' : Spliced (flat a.blocks.now (take (used_of w (links w)) a.list.now)) (flat bs' (take (used_of w (links w) + n' - k) list')) (start_of w a.l a.j + part_at w (8 * a.l + a.j) a.part) k n' a.d zs =
     subst (λ (q : ℕ). Spliced (flat a.blocks.now (take (used_of w (links w)) a.list.now)) (flat bs' (take (used_of w (links w) + q - k) list')) (start_of w a.l a.j + part_at w (8 * a.l + a.j) a.part) k q a.d zs) nn sp in
-    let rm : Room w a.l k n' = subst (λ (q : ℕ). Room w a.l k q) nn s.requires.l_bound.1 in
-    let p = s.requires.l_bound.0 in
+    let rm : Room w a.l k n' = subst (λ (q : ℕ). Room w a.l k q) nn s.requires.room in
+    let p = s.requires.l_bound in
     let e = c.set_part.ensures ∙ ap (λ (q : ℕ). splice_words w a.l a.j a.part (a.d + q) (blocksFor (a.d + q))) (sym lz) in record {
       blocks_after = ap (λ (v : List ℕ). sound v tm list' home' bs') e
-          ∙ good_of _ _ _ _ _ (spliced-good w tm a.list.now a.home.now a.blocks.now list' home' bs' a.l a.j a.part a.d zs g p.0 p.1 p.2 p.3 rm c.splice_zeros.auto.0 c.splice_zeros.auto.1.0 c.splice_zeros.auto.1.1.0 ch' sp');
+          ∙ good_of _ _ _ _ _ (spliced-good w tm a.list.now a.home.now a.blocks.now list' home' bs' a.l a.j a.part a.d zs g p.0 p.1 p.2 p.3 rm c.splice_zeros.auto.list c.splice_zeros.auto.home c.splice_zeros.auto.blocks ch' sp');
       blocks_after_2 = ap (λ (v : List ℕ). pend v tm list' bs') e
-            ∙ spliced-pend w tm a.list.now a.home.now a.blocks.now list' home' bs' a.l a.j a.part a.d zs g p.0 p.1 p.2 p.3 rm c.splice_zeros.auto.0 c.splice_zeros.auto.1.0 c.splice_zeros.auto.1.1.0 ch' sp';
+          ∙ spliced-pend w tm a.list.now a.home.now a.blocks.now list' home' bs' a.l a.j a.part a.d zs g p.0 p.1 p.2 p.3 rm c.splice_zeros.auto.list c.splice_zeros.auto.home c.splice_zeros.auto.blocks ch' sp';
       same_settings = subst (λ (v : List ℕ). SameSettings w v) (sym e) (settings-kept w tm a.l a.j a.part (a.d + length zs) n' g.tab p.0 p.1 p.2);
     }
