@@ -1,16 +1,14 @@
 -- Laws of `homed`: what the test says, and that a free block is found.
-use Prim.Native.Nat.{ℕ, zero, suc, ◌+◌, ◌*◌, ◌-◌, ◌≤◌, ◌<◌}
+use Prim.Native.Nat.{ℕ, zero, suc, ◌+◌, ◌-◌, ◌≤◌, ◌<◌}
 use mathlib.Core.Path.{◌≡◌, refl, sym, ap, ◌∙◌}
-use mathlib.Core.Logic.{⊎_elim}
-use mathlib.Core.Bool.{Bool, true, false, not, ◌&&◌, cond}
-use mathlib.Core.List.{List, [], ◌∷◌, ◌++◌}
+use mathlib.Core.Bool.{Bool, true, false, not, cond}
+use mathlib.Core.List.{List, [], ◌∷◌}
 use native.Mathlib.Numerals.{add-one}
 use native.Mathlib.Omega.{arith}
 use lib.Dec.{ltb, eqb}
-use lib.ListN.{length, get_or, set, take, drop, length-drop, length-take}
+use lib.ListN.{length, get_or, set, take, drop, length-drop}
 use lib.Seq.{split_at, get_or-take, get_or-drop, get_or-set_same, get_or-set_other, length-take-le}
 use borrow.Author.Tests.{ltb-true, lt-ltb, le-ltb, eqb-true, eqb-false, eq-eqb, ne_eqb, not-true}
-use Rattle.octets.specs.Tests.{all}
 use Rattle.chain.specs.Chain.{fresh, chain_ok, home_at, homed, in_use_at}
 use Rattle.octets.proofs.Tests.{all-at, all_of, and_left, and_right}
 use Rattle.chain.proofs.Flat.{fresh-behind}

@@ -1,17 +1,17 @@
 -- A run of blocks becomes longer or shorter, and octets are written from one of its octets on.
-use Prim.Native.Nat.{ℕ, zero, suc, ◌+◌, ◌*◌, ◌-◌, ◌≤◌, ◌<◌, min}
-use mathlib.Core.Path.{◌≡◌, refl, sym, ap, ◌∙◌, subst}
-use mathlib.Core.Bool.{Bool, true, false}
-use mathlib.Core.List.{List, [], ◌∷◌, ◌++◌, append_assoc, append-nil}
+use Prim.Native.Nat.{ℕ, ◌+◌, ◌*◌, ◌-◌, ◌≤◌, ◌<◌, min}
+use mathlib.Core.Path.{◌≡◌, sym, ap, ◌∙◌, subst}
+use mathlib.Core.Bool.{true}
+use mathlib.Core.List.{List, [], ◌++◌, append_assoc}
 use native.Mathlib.Omega.{arith}
-use lib.ListN.{length, get_or, take, drop, length-append, length-drop, length-take}
+use lib.ListN.{length, take, drop, length-append, length-drop, length-take}
 use lib.Seq.{take-take, drop-drop, take-append-le, drop-append-le, drop-append-add, length-take-le, take-add, take_at, drop_at}
 use Rattle.octets.specs.Emit.{put}
 use Rattle.octets.proofs.Put.{put_is, length-put}
 use Rattle.chain.specs.Chain.{chain_ok, homed, flat, Resized, Spliced}
 use Rattle.chain.proofs.Flat.{flat_append, length-flat, front-ok}
 use Rattle.chain.proofs.Home.{homed-chain}
-use Rattle.chain.proofs.Moves.{take-drop, chain-less}
+use Rattle.chain.proofs.Moves.{take-drop}
 use Rattle.chain.proofs.Swap.{drop-ok}
 use Rattle.chain.proofs.Spelt.{spelt-long, spelt-front, spelt-behind}
 

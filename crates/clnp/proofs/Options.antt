@@ -17,7 +17,7 @@ use Rattle.cells.proofs.Walks.{turn, done, over}
 use Rattle.fields.specs.Tlv.{tlv_at}
 use Rattle.fields.proofs.Tlvs.{whole-at}
 use Rattle.clnp.specs.Label.{label_members}
-use Rattle.clnp.specs.Options.{option_value, option, option_step, option_items, option_left}
+use Rattle.clnp.specs.Options.{option_value, option, option_step, option_items}
 
 -- ---- the value, of n octets at place i
 module _ (base : ℕ) (s : List ℕ) (i n : ℕ) where

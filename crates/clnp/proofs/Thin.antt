@@ -1,17 +1,16 @@
 -- How many cells a PDU's record has at most, so that an output with that many is never short.
-use Prim.Native.Nat.{ℕ, ◌+◌, ◌*◌, ◌-◌, ◌/◌, ◌%◌, ◌≤◌, ◌<◌, min}
+use Prim.Native.Nat.{ℕ, ◌+◌, ◌*◌, ◌-◌, ◌/◌, ◌%◌, ◌≤◌, ◌<◌}
 use mathlib.Core.Path.{◌≡◌, refl, sym, ap, subst, ◌∙◌}
 use mathlib.Core.List.{List, [], ◌++◌}
-use mathlib.Core.Bool.{Bool, true, false, not, ◌&&◌, ◌||◌}
+use mathlib.Core.Bool.{Bool, true, false, ◌&&◌, ◌||◌}
 use native.Mathlib.Nat.{min-le_left, min-le_right}
 use native.Mathlib.Omega.{arith}
-use borrow.Author.Tests.{eqb-true, eqb-false, ltb-true, ltb-false}
-use lib.Dec.{eqb, leb, ltb}
+use borrow.Author.Tests.{eqb-true, ltb-true, ltb-false}
+use lib.Dec.{eqb, ltb}
 use lib.ListN.{length, get_or, take, drop, length-append, length-take, length-drop}
-use Rattle.octets.specs.Read.{be16}
 use Rattle.octets.proofs.Tests.{and_left, and_right}
 use Rattle.octets.proofs.Picks.{pick_elim}
-use Rattle.names.specs.Numbers.{k_code, k_name, k_priority, k_reason, k_security_format, k_security_label, k_value_hex, k_reg_id, k_sec_info, k_tag_set, k_kind, k_class_id, k_class_name, k_subnet_id, k_subnet_name, k_permitted_traffic_types, k_classes, k_traffic_type, k_category, k_route_policy, k_protocol, k_type, k_version, k_lifetime500ms, k_seg_len, k_dst_nsap, k_src_nsap, k_error_report, k_more_segments, k_pdu_id, k_segment_offset, k_total_len, k_segmented, k_options, k_cotp, t_security_classification, t_subnet_type, t_supported_atsc_classes, t_traffic_type, t_globally_unique, t_clnp}
+use Rattle.names.specs.Numbers.{k_code, k_name, k_priority, k_reason, k_security_format, k_security_label, k_value_hex, k_reg_id, k_sec_info, k_tag_set, k_kind, k_class_id, k_class_name, k_subnet_id, k_subnet_name, k_permitted_traffic_types, k_classes, k_traffic_type, k_category, k_route_policy, k_dst_nsap, k_src_nsap, k_error_report, k_more_segments, k_pdu_id, k_segment_offset, k_total_len, k_segmented, k_options, k_cotp, t_security_classification, t_subnet_type, t_supported_atsc_classes, t_traffic_type, t_globally_unique}
 use Rattle.codes.specs.Codes.{Row, text_in, traffic_types, atsc_classes, subnets, security_classes, clnp_options}
 use Rattle.cells.specs.Items.{Items, none, leaf, group, number, flag, octet, part, text, record_of, in_list, ◌⊕◌, flat}
 use Rattle.cells.specs.Answer.{number_of, answer_to}
@@ -31,7 +30,7 @@ use Rattle.cotp.proofs.Thin as cotp_thin
 use Rattle.clnp.specs.Segment.{headed, sp, more, report, addresses_of}
 use Rattle.clnp.specs.Label.{bit_name, bit_names, traffic_name, category_name, tag_members, tag, tag_at, tag_step, tag_items, info_part, label_members}
 use Rattle.clnp.specs.Options.{option_value, option, option_step, option_items}
-use Rattle.clnp.specs.Pdu.{type_of, has_segment, offset_of, segmented, segment_members, flag_members, options_at, option_part, cotp_member, data_member, address_members, members_of, has_addresses, clnp_cells}
+use Rattle.clnp.specs.Pdu.{has_segment, segmented, segment_members, flag_members, options_at, option_part, cotp_member, data_member, address_members, members_of, has_addresses, clnp_cells}
 use Rattle.clnp.specs.declared.segment.Addresses.{Addresses}
 use Rattle.clnp.specs.declared.segment.Addresses.TheVariants as addresses
 use Rattle.clnp.proofs.Headers.{full}

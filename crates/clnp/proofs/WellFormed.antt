@@ -2,20 +2,20 @@
 use Prim.Native.Nat.{ℕ, ◌+◌, ◌*◌, ◌-◌, ◌/◌, ◌%◌, ◌≤◌, ◌<◌}
 use mathlib.Core.Path.{◌≡◌, refl, sym, ap, subst, ◌∙◌}
 use mathlib.Core.List.{List, []}
-use mathlib.Core.Bool.{Bool, true, false, not, ◌&&◌, ◌||◌}
+use mathlib.Core.Bool.{true, false, ◌&&◌, ◌||◌}
 use mathlib.Core.Option.{some}
 use native.Mathlib.Nat.{min-le_left, min-le_right, lt_of_not-le}
 use native.Mathlib.Decide.{dec_le}
 use native.Mathlib.Omega.{arith}
-use borrow.Author.Tests.{eqb-false, eqb-true, ltb-true, ltb-false}
-use lib.Dec.{eqb, leb, ltb}
+use borrow.Author.Tests.{eqb-false, ltb-true, ltb-false}
+use lib.Dec.{eqb, ltb}
 use lib.ListN.{length, get_or, take, drop, length-take, length-drop}
 use Rattle.octets.proofs.Tests.{and_left, and_right}
 use Rattle.octets.proofs.Picks.{pick_elim}
 use Rattle.names.specs.Numbers.{last_text, k_class_name, k_subnet_name, k_sec_info, k_name, k_options, k_segmented}
 use Rattle.codes.specs.Codes.{Row, text_in, traffic_types, atsc_classes, subnets, security_classes, clnp_options}
 use Rattle.codes.proofs.Lows.{text-low}
-use Rattle.cells.specs.Items.{Items, none, leaf, group, in_list, ◌⊕◌}
+use Rattle.cells.specs.Items.{Items, none, group, ◌⊕◌}
 use Rattle.cells.specs.Read.{items_of}
 use Rattle.cells.specs.Good.{Key, GoodRow, Good}
 use Rattle.cells.specs.Walk.{step_of}
@@ -25,7 +25,7 @@ use Rattle.cells.proofs.Rows.{good-⊕, good_in_list}
 use Rattle.cells.proofs.Walks.{Each, all}
 use Rattle.cells.proofs.WellFormed.{reads-back}
 use Rattle.fields.specs.Tlv.{tlv_at}
-use Rattle.fields.specs.Member.{opt_text, opt_yes}
+use Rattle.fields.specs.Member.{opt_text}
 use Rattle.fields.proofs.Tlvs as tlvs
 use Rattle.fields.proofs.Goods.{Octets, text-good, yes_good, take-small, drop-small}
 use Rattle.cotp.specs.Tpdu as cotp
@@ -33,7 +33,7 @@ use Rattle.cotp.proofs.WellFormed as cotp-good
 use Rattle.clnp.specs.Segment.{headed, sp, seg_at, addresses_of}
 use Rattle.clnp.specs.Label.{bit_name, bit_names, traffic_name, category_name, tag_members, tag, tag_at, tag_step, tag_items, info_part, label_members}
 use Rattle.clnp.specs.Options.{option_value, option, option_step, option_items}
-use Rattle.clnp.specs.Pdu.{type_of, has_segment, offset_of, segmented, segment_members, flag_members, options_at, option_part, cotp_member, data_member, address_members, members_of, has_addresses, clnp_cells}
+use Rattle.clnp.specs.Pdu.{type_of, has_segment, offset_of, segmented, segment_members, flag_members, options_at, option_part, data_member, address_members, members_of, has_addresses, clnp_cells}
 use Rattle.clnp.specs.declared.segment.Addresses.{Addresses}
 use Rattle.clnp.specs.declared.segment.Addresses.TheVariants as addresses
 use Rattle.clnp.proofs.Headers.{full}

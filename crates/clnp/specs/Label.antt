@@ -1,5 +1,5 @@
 -- The ATN security label and its tags: `parse_atn_security_label`, `parse_atn_security_tag`, `bitfield_names`.
-use Rattle.std.specs.Prelude.{ℕ, ◌+◌, ◌-◌, ◌/◌, ◌%◌, min, Bool, true, false, ◌&&◌, ◌||◌, List, [], ltb, leb, eqb, length, get_or, take, drop}
+use Rattle.std.specs.Prelude.{ℕ, ◌+◌, ◌/◌, ◌%◌, true, false, ◌&&◌, ◌||◌, List, [], ltb, leb, eqb, length, get_or, take, drop}
 use Rattle.octets.specs.Text.{pick}
 use Rattle.names.specs.Numbers.{k_tag_set, k_kind, k_class_id, k_class_name, k_subnet_id, k_subnet_name, k_permitted_traffic_types, k_classes, k_traffic_type, k_category, k_route_policy, k_value_hex, k_reg_id, k_sec_info, t_security_classification, t_subnet_type, t_supported_atsc_classes, t_traffic_type, t_atn_operational, t_atsc, t_aoc, t_atn_administrative, t_none, t_atn_system_management, t_unknown}
 use Rattle.codes.specs.Codes.{Row, text_in, traffic_types, atsc_classes, subnets, security_classes}

@@ -1,5 +1,5 @@
 -- The options of a CLNP header: `parse_clnp_options`.
-use Rattle.std.specs.Prelude.{ℕ, ◌+◌, ◌-◌, Bool, true, ◌&&◌, List, [], ltb, eqb, length, get_or, take, drop}
+use Rattle.std.specs.Prelude.{ℕ, ◌+◌, ◌-◌, true, ◌&&◌, List, [], ltb, eqb, length, get_or, take, drop}
 use Rattle.octets.specs.Text.{pick}
 use Rattle.names.specs.Numbers.{k_code, k_name, k_priority, k_reason, k_security_format, k_security_label, k_value_hex, t_globally_unique}
 use Rattle.codes.specs.Codes.{text_in, clnp_options}

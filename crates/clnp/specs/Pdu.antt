@@ -1,5 +1,5 @@
 -- `parse_clnp`: the record of a CLNP PDU.
-use Rattle.std.specs.Prelude.{ℕ, ◌+◌, ◌-◌, ◌/◌, ◌%◌, Bool, true, false, not, ◌&&◌, ◌||◌, List, [], ltb, leb, eqb, length, get_or, take, drop}
+use Rattle.std.specs.Prelude.{ℕ, ◌+◌, ◌-◌, ◌%◌, Bool, true, false, not, ◌&&◌, ◌||◌, List, [], leb, eqb, length, get_or, take, drop}
 use Rattle.octets.specs.Text.{pick}
 use Rattle.octets.specs.Read.{be16}
 use Rattle.names.specs.Numbers.{k_protocol, k_type, k_version, k_lifetime500ms, k_seg_len, k_dst_nsap, k_src_nsap, k_error_report, k_more_segments, k_pdu_id, k_segment_offset, k_total_len, k_segmented, k_options, k_cotp, t_clnp, t_dt, t_erq, t_erp, t_er, t_question}
@@ -7,7 +7,7 @@ use Rattle.cells.specs.Items.{Items, none, leaf, group, number, flag, text, part
 use Rattle.fields.specs.Member.{opt_yes}
 use Rattle.cotp.specs.Tpdu as cotp
 use Rattle.cotp.specs.declared.tpdu.Head.{Head}
-use Rattle.clnp.specs.Segment.{headed, sp, more, report, behind, seg_at, addresses_of}
+use Rattle.clnp.specs.Segment.{headed, sp, more, report, seg_at, addresses_of}
 use Rattle.clnp.specs.Options.{option_items}
 use Rattle.clnp.specs.declared.segment.Addresses.{Addresses}
 use Rattle.clnp.specs.declared.segment.Addresses.TheVariants as addresses

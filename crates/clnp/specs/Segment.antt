@@ -1,5 +1,5 @@
 -- `clnp_segment`, `clnp_addresses` and `clnp_cotp_tpdu`.
-use Rattle.std.specs.Prelude.{ℕ, ◌+◌, ◌/◌, ◌%◌, Bool, true, false, not, ◌&&◌, ◌||◌, List, ltb, leb, eqb, length, get_or}
+use Rattle.std.specs.Prelude.{ℕ, ◌+◌, ◌/◌, ◌%◌, Bool, false, not, ◌&&◌, ◌||◌, List, ltb, leb, eqb, length, get_or}
 use Rattle.octets.specs.Text.{pick}
 use Rattle.octets.specs.Read.{be16}
 use Rattle.clnp.specs.declared.segment.Segment.{Segment}

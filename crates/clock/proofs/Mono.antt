@@ -1,13 +1,12 @@
 -- `fresh_t` is monotone: what is fresh at a finite time is fresh at each finite time before it, whatever the stored time.
-use mathlib.Core.Path.{◌≡◌, refl, sym, ap, ◌∙◌, subst}
+use mathlib.Core.Path.{◌≡◌, refl, sym, ap, subst}
 use mathlib.Core.Logic.{◌⊎◌, inl, inr}
 use mathlib.Core.Bool.{Bool, true, false, not, ◌&&◌, ◌||◌, cond, beq, true≢false}
-use Prim.Native.Nat.{ℕ, zero, suc, ◌+◌, ◌-◌, ◌*◌, ◌≤◌, ◌<◌}
-use native.Mathlib.Nat.{mul-pos, mul_comm, mul_assoc, mul_left_comm, mul_right_comm, add-mul, mul-one, le_trans, le_of_eq, lt_of_le_of_lt, mul-le-mul_right, mul-lt-mul_of_pos_right, lt_of_mul-lt-mul_right, le_of_mul-le-mul_right}
+use Prim.Native.Nat.{ℕ, ◌+◌, ◌-◌, ◌*◌, ◌≤◌, ◌<◌}
+use native.Mathlib.Nat.{mul-pos, mul_comm, mul_assoc, mul_left_comm, mul_right_comm, add-mul, le_trans, le_of_eq, lt_of_le_of_lt, mul-le-mul_right, mul-lt-mul_of_pos_right, lt_of_mul-lt-mul_right, le_of_mul-le-mul_right}
 use native.Mathlib.Omega.{arith}
-use lib.Dec.{T, ltb, eqb, leb, lt→ltb, ltb→lt, nltb→le, eqb→eq}
-use lib.IntN.{ℤ, pos, negsuc}
-use lib.Ieee.{Float, nan, inf, fin, Format, binary64, up, down, round, sum, add, neg, sub, lt, le, below, level}
+use lib.Dec.{T, ltb, eqb, lt→ltb, ltb→lt, nltb→le, eqb→eq}
+use lib.Ieee.{Float, nan, inf, fin, binary64, up, down, round, sum, add, neg, sub, lt, le, below, level}
 use lib.Ieee.Fits.{down_pos, and_l, and_r}
 use lib.Ieee.Order.{round_mono}
 use lib.Ieee.Scale.{finite}

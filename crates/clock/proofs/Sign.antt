@@ -1,17 +1,14 @@
 -- A sum's result is one rounding, of a sign and a size; a rounding's sign is the one handed in; `< 60.0` of each.
-use mathlib.Core.Path.{◌≡◌, refl, sym, ap, ◌∙◌, subst}
-use mathlib.Core.Bool.{Bool, true, false, not, ◌&&◌, cond, beq}
-use Prim.Native.Nat.{ℕ, zero, suc, ◌+◌, ◌-◌, ◌*◌, ◌/◌, ◌%◌, ◌^◌, ◌≤◌, ◌<◌, compare}
-use native.Mathlib.Nat.{mul-pos, mul_comm, mul_assoc, mul_left_comm, mul_right_comm, mul-one, lt_of_le_of_lt, le_trans, le_of_eq, mul-le-mul_right, mul-lt-mul_of_pos_right, lt_of_mul-lt-mul_right}
+use mathlib.Core.Path.{◌≡◌, refl, sym, subst}
+use mathlib.Core.Bool.{Bool, true, false, ◌&&◌, cond, beq}
+use Prim.Native.Nat.{ℕ, suc, ◌+◌, ◌-◌, ◌*◌, ◌^◌, ◌<◌}
+use native.Mathlib.Nat.{mul-pos}
 use native.Mathlib.Omega.{arith}
-use lib.Dec.{T, ltb, eqb, leb, lt→ltb, ltb→lt}
-use lib.IntN.{ℤ, pos, negsuc}
-use lib.Pow.{pow_pos}
-use lib.Ieee.{Float, nan, inf, fin, Format, binary64, prec, emax, low, up, down, size, odd, units, nearest, round, sum, add, neg, sub, lt, le}
-use lib.Ieee.Fits.{round_is, up_pos, down_pos}
+use lib.Dec.{T, ltb, lt→ltb}
+use lib.Ieee.{Float, nan, inf, fin, Format, prec, emax, low, up, down, odd, units, round, sum, lt}
+use lib.Ieee.Fits.{round_is, down_pos}
 use lib.Ieee.Exact.{HasValue, odd_sign}
-use lib.Ieee.Order.{round_mono}
-use Rattle.clock.specs.Time.{sixty, fresh_t}
+use Rattle.clock.specs.Time.{sixty}
 
 -- ---- the sign and the size of ±a ± b
 abbrev pub sgn : Bool → ℕ → Bool → ℕ → Bool

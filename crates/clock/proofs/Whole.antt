@@ -1,14 +1,13 @@
 -- Of whole seconds below 2 ^ 52 in size `fresh_t` is the rule on whole numbers. And a NaN is never fresh.
-use mathlib.Core.Path.{◌≡◌, refl, sym, ap, ◌∙◌, subst}
-use mathlib.Core.Bool.{Bool, true, false, not, ◌&&◌, ◌||◌, cond, beq, true≢false}
+use mathlib.Core.Path.{◌≡◌, refl, sym, ap, ◌∙◌}
+use mathlib.Core.Bool.{Bool, true, false, not, ◌&&◌, cond, beq}
 use Prim.Native.Nat.{ℕ, zero, suc, ◌+◌, ◌-◌, ◌*◌, ◌^◌, ◌≤◌, ◌<◌}
-use native.Mathlib.Nat.{add-mul, mul-sub, mul-pos, mul_comm, mul_assoc, mul_left_comm, mul_right_comm, mul-one, le_trans, le_of_eq, lt_of_le_of_lt, lt_of_lt_of_le, mul-le-mul_right, mul-lt-mul_of_pos_right}
+use native.Mathlib.Nat.{add-mul, mul-sub, mul-pos, mul_comm, mul_assoc, mul-one, mul-le-mul_right, mul-lt-mul_of_pos_right}
 use native.Mathlib.Omega.{arith}
-use lib.Dec.{T, ltb, eqb, leb, lt→ltb, ltb→lt, nltb→le, eqb→eq, lit≤, lit<}
-use lib.IntN.{ℤ, pos, negsuc, nat_abs, ◌-ℤ◌, neg_ℤ}
+use lib.Dec.{T, ltb, lt→ltb, ltb→lt, nltb→le}
+use lib.IntN.{ℤ, pos, negsuc, nat_abs, ◌-ℤ◌}
 use lib.Signed.{lt_z}
-use lib.Pow.{pow-add, pow_pos}
-use lib.Ieee.{Float, nan, inf, fin, Format, binary64, low, prec, emax, up, down, round, sum, add, neg, sub, lt, of_int}
+use lib.Ieee.{Float, nan, inf, fin, binary64, up, down, round, sum, add, neg, sub, lt, of_int}
 use lib.Ieee.Fits.{down_pos}
 use lib.Ieee.Exact.{HasValue}
 use lib.Ieee.Back.{round_whole}

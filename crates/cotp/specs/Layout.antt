@@ -1,5 +1,5 @@
 -- X.224's TPDUs, laid out as the recommendation draws them: octets from fields.
-use Rattle.std.specs.Prelude.{ℕ, ◌+◌, ◌*◌, ◌<◌, ◌≤◌, Bool, List, [], ◌∷◌, ◌++◌, length}
+use Rattle.std.specs.Prelude.{ℕ, ◌+◌, ◌*◌, Bool, List, [], ◌∷◌, ◌++◌, length}
 use Rattle.octets.specs.Text.{pick}
 use Rattle.octets.specs.Read.{octets_of}
 use Rattle.cells.specs.Items.{Items, none, ◌⊕◌}

@@ -1,5 +1,5 @@
 -- `cotp_dt_segment`: a DT TPDU as a piece of a unit.
-use Rattle.std.specs.Prelude.{ℕ, ◌+◌, ◌/◌, ◌%◌, Bool, true, false, not, List, ltb, eqb, length, get_or}
+use Rattle.std.specs.Prelude.{ℕ, ◌+◌, ◌/◌, ◌%◌, not, List, ltb, eqb, length, get_or}
 use Rattle.octets.specs.Text.{pick}
 use Rattle.octets.specs.Read.{be16}
 use Rattle.cotp.specs.Tpdu.{seq_of}

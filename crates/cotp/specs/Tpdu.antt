@@ -1,5 +1,5 @@
 -- `parse_cotp`: what a TPDU's octets say, and its record.
-use Rattle.std.specs.Prelude.{ℕ, ◌+◌, ◌-◌, ◌*◌, ◌/◌, ◌%◌, Bool, true, false, not, ◌&&◌, ◌||◌, List, [], ltb, leb, eqb, length, get_or, take, drop}
+use Rattle.std.specs.Prelude.{ℕ, ◌+◌, ◌-◌, ◌/◌, ◌%◌, Bool, true, false, not, ◌&&◌, ◌||◌, List, [], ltb, leb, eqb, length, get_or, take, drop}
 use Rattle.octets.specs.Text.{pick}
 use Rattle.octets.specs.Read.{be16, be32}
 use Rattle.names.specs.Numbers.{k_tpdu, k_dst_ref, k_src_ref, k_class, k_options, k_reason, k_reason_text, k_reject_cause, k_reject_cause_text, k_roa, k_eot, k_tpdu_seq, k_credit, k_extended, k_params, k_user_data_len, k_tsdu_segment, t_cr, t_cc, t_dr, t_dc, t_dt, t_ed, t_ak, t_ea, t_rj, t_er}

@@ -1,7 +1,7 @@
 -- ISO 9542's PDUs, laid out as the standard draws them: octets from fields.
 use Rattle.std.specs.Prelude.{ℕ, ◌+◌, ◌*◌, ◌≤◌, ◌<◌, ◌≡◌, List, [], ◌∷◌, ◌++◌, length, take, drop}
 use Rattle.octets.specs.Read.{octets_of}
-use Rattle.names.specs.Numbers.{k_protocol, k_payload_len, k_type, k_holding_time_s, k_addresses, k_options, t_es_is, t_esh, t_ish}
+use Rattle.names.specs.Numbers.{k_protocol, k_payload_len, k_type, k_holding_time_s, k_addresses, k_options, t_es_is}
 use Rattle.cells.specs.Items.{Items, none, leaf, number, text, part, in_list, ◌⊕◌}
 use Rattle.esis.specs.Pdu.{type_of, option}
 

@@ -12,7 +12,6 @@ use lib.ListN.{length, get_or, take, drop, length-take, length-drop}
 use Rattle.octets.specs.Read.{be16, be32}
 use Rattle.octets.specs.Text.{pick}
 use Rattle.octets.proofs.Picks.{pick_elim}
-use Rattle.names.specs.Ascii.{octets}
 use Rattle.names.specs.Numbers.{k_nlri, k_error_subcode_text}
 use Rattle.codes.specs.Codes.{text_in, error_subcodes}
 use Rattle.codes.proofs.Lows.{text-low}

@@ -1,9 +1,9 @@
 -- ISO/IEC 10747's BISPDUs, laid out as the standard draws them: octets from fields.
-use Rattle.std.specs.Prelude.{ℕ, ◌+◌, ◌*◌, ◌/◌, ◌≤◌, ◌<◌, ◌^◌, Bool, true, false, ◌&&◌, ◌≡◌, List, [], ◌∷◌, ◌++◌, ltb, eqb, length, get_or, take, drop}
+use Rattle.std.specs.Prelude.{ℕ, ◌+◌, ◌*◌, ◌/◌, ◌<◌, ◌^◌, Bool, true, false, ◌&&◌, ◌≡◌, List, [], ◌∷◌, ◌++◌, ltb, eqb, length, get_or, take, drop}
 use Rattle.octets.specs.Text.{pick}
 use Rattle.octets.specs.Read.{octets_of}
 use Rattle.names.specs.Ascii.{octets}
-use Rattle.names.specs.Numbers.{k_protocol, k_payload_len, k_bispdu_len, k_type, k_type_code, k_sequence, k_ack, k_credit_offered, k_credit_avail, k_open, k_version, k_hold_time_s, k_max_pdu_size, k_src_rdi, k_withdrawn_routes, k_path_attributes, k_value, k_value_hex, k_nlri, k_proto_type, k_clnp, k_prefixes, t_idrp}
+use Rattle.names.specs.Numbers.{k_protocol, k_payload_len, k_bispdu_len, k_type, k_type_code, k_sequence, k_ack, k_credit_offered, k_credit_avail, k_version, k_hold_time_s, k_max_pdu_size, k_src_rdi, k_withdrawn_routes, k_path_attributes, k_value, k_value_hex, k_nlri, k_proto_type, k_clnp, k_prefixes, t_idrp}
 use Rattle.codes.specs.Codes.{text_in, idrp_types, idrp_attributes}
 use Rattle.cells.specs.Items.{Items, none, leaf, group, number, flag, text, part, prefix, word, in_list, ◌⊕◌}
 use Rattle.idrp.specs.Update.{shown}

@@ -1,5 +1,5 @@
 -- `parse_idrp`: the record of an IDRP BISPDU.
-use Rattle.std.specs.Prelude.{ℕ, ◌+◌, ◌-◌, Bool, true, false, ◌&&◌, List, [], ltb, leb, eqb, length, get_or, drop}
+use Rattle.std.specs.Prelude.{ℕ, ◌+◌, true, List, [], ltb, leb, eqb, length, get_or, drop}
 use Rattle.octets.specs.Text.{pick}
 use Rattle.octets.specs.Read.{be16, be32}
 use Rattle.names.specs.Ascii.{octets}

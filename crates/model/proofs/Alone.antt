@@ -1,10 +1,9 @@
 -- Other links change a link's answers only through refusals of common room.
 use mathlib.Core.Path.{◌≡◌, refl, sym, ap, ap₂, ◌∙◌, subst}
-use mathlib.Core.Logic.{◌⊎◌, inl, inr}
+use mathlib.Core.Logic.{inl, inr}
 use mathlib.Core.List.{List, [], ◌∷◌}
 use mathlib.Core.Bool.{Bool, true, false, cond}
-use mathlib.Core.Option.{Option, none, some}
-use Prim.Native.Nat.{ℕ, ◌≤◌, ◌<◌}
+use Prim.Native.Nat.{ℕ, ◌<◌}
 use native.Mathlib.Omega.{arith}
 use lib.ListN.{length, get_or, set}
 use lib.Seq.{get_or-set_same, get_or-set_other}
@@ -12,8 +11,8 @@ use lib.Dec.{eqb, ltb}
 use lib.Ieee.{Float}
 use borrow.Author.Tests.{lt-ltb, eqb-true, eqb-false}
 use Rattle.model.specs.Kind.{First, nothing, passes, piece, Check, fine, address, total, Turn, ends, holds, out_of_turn, Kind}
-use Rattle.model.specs.Store.{Settings, rest, Pend, Units, Links, keep, lookup, admit, remove, in_use, excesses, room, Call, push, tidy, close, Result, answered, delivered, admitted, turned, checked, begun, on_link, step, fresh, run, Sound}
-use Rattle.model.specs.Alone.{Own, own, own_delivered, own_room, own_turned, own_checked, own_begun, own_step, link_of, Told, told, Gave, gave, alone_gave, alone_left}
+use Rattle.model.specs.Store.{Settings, rest, Units, Links, keep, admit, remove, in_use, excesses, room, Call, push, tidy, close, Result, answered, admitted, turned, checked, begun, on_link, step, fresh, run, Sound}
+use Rattle.model.specs.Alone.{Own, own, own_room, own_turned, own_checked, own_begun, own_step, link_of, told, Gave, gave, alone_gave, alone_left}
 use Rattle.model.proofs.Keys.{either}
 use Rattle.model.proofs.Shares.{cond_elim, step-sound, fresh-sound}
 

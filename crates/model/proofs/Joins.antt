@@ -1,23 +1,23 @@
 -- Demand 2's frame: what a link gives is what a Rust reassembler of its own gives, fed that link's pushes, for any kind whose
 -- one step the Rust's step is simulated by.
 use mathlib.Core.Path.{◌≡◌, refl, sym, ap, ap₂, ◌∙◌, subst}
-use mathlib.Core.Logic.{◌⊎◌, inl, inr, ⊎_elim}
+use mathlib.Core.Logic.{◌⊎◌, inl, inr}
 use mathlib.Core.List.{List, [], ◌∷◌}
 use mathlib.Core.Bool.{Bool, true, false, cond}
 use mathlib.Core.Option.{Option, none, some}
 use Prim.Native.Nat.{ℕ, ◌≤◌, ◌<◌}
 use native.Mathlib.Omega.{arith}
-use lib.ListN.{length, get_or, replicate, get_or-replicate}
+use lib.ListN.{length, get_or, get_or-replicate}
 use lib.Dec.{eqb, ltb}
 use lib.Ieee.{Float}
-use borrow.Author.Tests.{ltb-true, ltb-false, eqb-true, ne_eqb}
+use borrow.Author.Tests.{ltb-false}
 use Rattle.clock.specs.Time.{fresh_t}
 use Rattle.model.specs.Kind.{First, nothing, passes, piece, Check, fine, address, total, Turn, ends, holds, out_of_turn, Kind}
-use Rattle.model.specs.Store.{Settings, Pend, Units, Links, keep, lookup, admit, remove, in_use, Call, push, tidy, close, fresh, run, Uniq, Fine, Sound}
-use Rattle.model.specs.Alone.{Own, own, own_delivered, own_room, own_turned, own_checked, own_begun, own_step, link_of, Told, told, Gave, gave, alone_gave}
-use Rattle.model.specs.Rust.{stays, Oracle, Map, retain, rust_out, rust_map, Pushed, rust_gave, outcome, outcomes, Opt, TurnAlike, CheckAlike, FirstAlike, Simulates, pushed_by, pushes, IsPush, Plain}
+use Rattle.model.specs.Store.{Settings, Units, keep, lookup, admit, remove, in_use, Call, push, tidy, close, fresh, Uniq}
+use Rattle.model.specs.Alone.{Own, own, own_room, own_turned, own_checked, own_begun, own_step, Told, told, Gave, gave, alone_gave}
+use Rattle.model.specs.Rust.{stays, Oracle, Map, retain, rust_out, rust_map, rust_gave, outcome, outcomes, Opt, TurnAlike, CheckAlike, FirstAlike, Simulates, pushed_by, pushes, IsPush, Plain}
 use Rattle.model.proofs.Keys.{either, lookup-keep, uniq-keep, lookup-admit, uniq-admit, lookup-remove, uniq-remove}
-use Rattle.model.proofs.Shares.{cond_elim, every_get, fresh-sound}
+use Rattle.model.proofs.Shares.{cond_elim, fresh-sound}
 use Rattle.model.proofs.Alone.{alone}
 
 -- an answer that the comparison takes

@@ -1,10 +1,9 @@
 -- What `keep`, `admit` and `remove` do to what is held under each key.
 use mathlib.Core.Path.{◌≡◌, refl, sym, ap, ◌∙◌, subst}
 use mathlib.Core.Logic.{◌⊎◌, inl, inr}
-use mathlib.Core.List.{List, [], ◌∷◌, ◌++◌}
+use mathlib.Core.List.{[], ◌∷◌}
 use mathlib.Core.Bool.{Bool, true, false, cond, true≢false}
 use mathlib.Core.Option.{Option, none, some}
-use Prim.Native.Nat.{ℕ}
 use lib.Ieee.{Float}
 use Rattle.clock.specs.Time.{fresh_t}
 use Rattle.model.specs.Kind.{Kind}

@@ -1,16 +1,15 @@
 -- Demand 1: a refusal gives no octets, and in the store removes at most the calling link's expired units.
-use mathlib.Core.Path.{◌≡◌, refl, sym, ap, ◌∙◌}
+use mathlib.Core.Path.{◌≡◌, refl, ap, ◌∙◌}
 use mathlib.Core.Logic.{◌⊎◌, inl, inr}
-use mathlib.Core.List.{List, [], ◌∷◌}
+use mathlib.Core.List.{List, []}
 use mathlib.Core.Bool.{Bool, true, false, cond}
-use Prim.Native.Nat.{ℕ, ◌≤◌, ◌<◌}
-use native.Mathlib.Omega.{arith}
+use Prim.Native.Nat.{ℕ}
 use lib.ListN.{length, get_or, set}
 use lib.Dec.{eqb, ltb}
 use lib.Ieee.{Float}
 use borrow.Author.Tests.{eqb-true}
 use Rattle.model.specs.Kind.{First, nothing, passes, piece, Check, fine, address, total, Turn, ends, holds, out_of_turn, Kind}
-use Rattle.model.specs.Store.{Settings, Units, Links, keep, lookup, admit, remove, room, Call, push, tidy, close, Result, answered, delivered, admitted, turned, checked, begun, on_link, step}
+use Rattle.model.specs.Store.{Settings, Units, Links, keep, lookup, admit, room, push, Result, answered, turned, checked, begun, step}
 use Rattle.model.proofs.Shares.{cond_elim}
 
 module _ (Z : Kind) (s : Settings) (st : Links Z) (link : ℕ) (now : Float) where

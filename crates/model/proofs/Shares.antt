@@ -1,11 +1,10 @@
 -- Demand 3: shares hold after any calls; a push within the reserve and eight places is never refused room; room is refused
 -- exactly where the units left pending would break the rules.
 use mathlib.Core.Path.{◌≡◌, refl, sym, ap, ◌∙◌, subst}
-use mathlib.Core.Logic.{◌⊎◌, inl, inr}
 use mathlib.Core.List.{List, [], ◌∷◌}
 use mathlib.Core.Bool.{Bool, true, false, cond}
-use mathlib.Core.Option.{Option, none, some}
-use Prim.Native.Nat.{ℕ, zero, suc, ◌+◌, ◌-◌, ◌*◌, ◌≤◌, ◌<◌}
+use mathlib.Core.Option.{Option}
+use Prim.Native.Nat.{ℕ, zero, suc, ◌+◌, ◌≤◌, ◌<◌}
 use native.Mathlib.Nat.{le_of_suc-le-suc, not-suc-le-zero}
 use native.Mathlib.Omega.{arith}
 use lib.ListN.{length, get_or, set, replicate, length-set, length-replicate}
@@ -14,8 +13,8 @@ use lib.Ieee.{Float}
 use borrow.Author.Tests.{ltb-true, ltb-false, lt-ltb, le-ltb, eqb-true}
 use Rattle.clock.specs.Time.{fresh_t}
 use Rattle.model.specs.Kind.{First, nothing, passes, piece, Check, fine, address, total, Turn, ends, holds, out_of_turn, Of, Kind}
-use Rattle.model.specs.Store.{Settings, Allowed, rest, Pend, Units, Links, keep, lookup, admit, remove, in_use, excess, excesses, room, Call, push, tidy, close, Result, answered, delivered, admitted, turned, checked, begun, on_link, step, fresh, run, Uniq, AllGood, Fine, Every, Sound}
-use Rattle.model.proofs.Keys.{either, uniq-keep, uniq-admit, uniq-remove}
+use Rattle.model.specs.Store.{Settings, Allowed, rest, Pend, Units, Links, keep, lookup, admit, remove, in_use, excess, excesses, room, Call, push, tidy, close, Result, admitted, turned, checked, begun, on_link, step, fresh, run, AllGood, Fine, Every, Sound}
+use Rattle.model.proofs.Keys.{uniq-keep, uniq-admit, uniq-remove}
 
 -- a test, each way
 pub cond_elim {ℓ} : {A : Type ℓ} (Q : A → Type 0) (b : Bool) {x y : A} → (b ≡ true → Q x) → (b ≡ false → Q y) → Q (cond b x y)

@@ -1,20 +1,20 @@
 -- Laws for tidying and closing.
-use mathlib.Core.Path.{◌≡◌, refl, sym, ap, ◌∙◌, subst}
-use mathlib.Core.Logic.{◌⊎◌, inl, inr, ◌≢◌}
-use mathlib.Core.List.{List, [], ◌∷◌}
-use mathlib.Core.Bool.{Bool, true, false, cond}
+use mathlib.Core.Path.{◌≡◌, refl, sym, ap}
+use mathlib.Core.Logic.{inl, inr, ◌≢◌}
+use mathlib.Core.List.{[], ◌∷◌}
+use mathlib.Core.Bool.{Bool, cond}
 use Prim.Native.Nat.{ℕ, ◌<◌}
 use native.Mathlib.Omega.{arith}
-use lib.ListN.{length, get_or, set, length-set}
+use lib.ListN.{length, get_or, set}
 use lib.Seq.{get_or-set_same, get_or-set_other, set-set, set_comm}
-use lib.Dec.{T, ltb}
+use lib.Dec.{T}
 use lib.Ieee.{Float, le}
 use lib.Ieee.Scale.{finite}
 use borrow.Author.Tests.{lt-ltb}
 use Rattle.clock.specs.Time.{fresh_t}
-use Rattle.clock.proofs.Mono.{fresh_mono, stale_later}
+use Rattle.clock.proofs.Mono.{stale_later}
 use Rattle.model.specs.Kind.{Kind}
-use Rattle.model.specs.Store.{Settings, Pend, Units, Links, keep, Call, tidy, close, Result, answered, on_link, step}
+use Rattle.model.specs.Store.{Settings, Units, Links, keep, tidy, close, answered, step}
 use Rattle.model.proofs.Keys.{either}
 
 module _ (Z : Kind) where

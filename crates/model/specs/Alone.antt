@@ -1,8 +1,7 @@
 -- A link by itself: its own calls, and for each whether it was refused common room. Nothing else of the other links comes in.
-use Rattle.std.specs.Prelude.{List, [], ◌∷◌, Bool, true, false, cond, ℕ, length, get_or, eqb, ltb, Float}
-use Rattle.std.proofs.Math.Option.{Option, none, some}
+use Rattle.std.specs.Prelude.{List, [], ◌∷◌, Bool, cond, ℕ, length, eqb, ltb, Float}
 use Rattle.model.specs.Kind.{First, nothing, passes, piece, Check, fine, address, total, Turn, ends, holds, out_of_turn, Kind}
-use Rattle.model.specs.Store.{Settings, Pend, Units, Links, keep, lookup, admit, remove, in_use, Call, push, tidy, close, Result, step}
+use Rattle.model.specs.Store.{Settings, Units, Links, keep, lookup, admit, remove, in_use, Call, push, tidy, close, step}
 
 module _ (Z : Kind) where
   -- what a call gives and leaves at its own link

@@ -1,6 +1,6 @@
 -- What differs between X.25, CLNP and COTP: how octets are read, what the piece alone is refused for, and what a piece makes
 -- of the unit under its key. The store, expiry and room are the same for each.
-use Rattle.std.specs.Prelude.{◌≡◌, List, Bool, true, ℕ, ◌≤◌, Float}
+use Rattle.std.specs.Prelude.{◌≡◌, List, Bool, true, ℕ, Float}
 use Rattle.std.proofs.Math.Option.{Option, none, some}
 
 -- before expiry: no piece (6), octets that pass through as they came, or a piece

@@ -1,10 +1,10 @@
 -- The Rust's reassemblers, for every kind: a map from keys to entries, pruned by time and changed at one key by each push.
-use Rattle.std.specs.Prelude.{◌≡◌, ◌⊎◌, List, [], ◌∷◌, Bool, true, false, cond, ℕ, ◌≤◌, ◌<◌, eqb, length, Float}
+use Rattle.std.specs.Prelude.{◌≡◌, ◌⊎◌, List, [], ◌∷◌, cond, ℕ, ◌≤◌, ◌<◌, eqb, length, Float}
 use Rattle.std.proofs.Math.Option.{Option, none, some}
 use Rattle.clock.specs.Time.{fresh_t}
 use Rattle.model.specs.Kind.{First, nothing, passes, piece, Check, fine, address, total, Turn, ends, holds, out_of_turn, Kind}
-use Rattle.model.specs.Store.{Settings, Links, Call, push, tidy, close, step}
-use Rattle.model.specs.Alone.{link_of, Told, told, Gave, gave}
+use Rattle.model.specs.Store.{Call, push, tidy, close}
+use Rattle.model.specs.Alone.{Told, Gave}
 
 -- an entry that `retain` keeps
 abbrev pub stays : {A : Type 0} → (A → Float) → Float → Option A → Option A

@@ -1,6 +1,6 @@
 -- The store as document 01 has it: the pending units of each link, in order of admission, and what each call makes of them.
 -- A store whose memory is damaged (4) has no pending units to speak of: that answer is the entry points' own.
-use Rattle.std.specs.Prelude.{◌≡◌, List, [], ◌∷◌, Bool, true, false, cond, ℕ, ◌+◌, ◌-◌, ◌*◌, ◌≤◌, ◌<◌, length, get_or, set, replicate, eqb, ltb, Float}
+use Rattle.std.specs.Prelude.{◌≡◌, List, [], ◌∷◌, cond, ℕ, ◌+◌, ◌-◌, ◌*◌, ◌≤◌, length, get_or, set, replicate, eqb, ltb, Float}
 use Rattle.std.proofs.Math.Option.{Option, none, some}
 use Rattle.clock.specs.Time.{fresh_t}
 use Rattle.model.specs.Kind.{First, nothing, passes, piece, Check, fine, address, total, Turn, ends, holds, out_of_turn, Kind}

@@ -1,5 +1,5 @@
 -- The field numbers and the text numbers that definitions cite, by name.
-use Rattle.std.specs.Prelude.{◌≡◌, refl, List, [], ◌∷◌, map, ℕ, length}
+use Rattle.std.specs.Prelude.{◌≡◌, refl, [], ◌∷◌, map, ℕ, length}
 use Rattle.names.specs.Ascii.{octets}
 use Rattle.names.specs.Keys.{keys, key_text}
 use Rattle.names.specs.Texts.{texts, text_of}

@@ -1,22 +1,19 @@
 -- The cells by the first octet.
 use Prim.Native.Nat.{ℕ, ◌≤◌, ◌<◌}
-use mathlib.Core.Path.{◌≡◌, refl, ap, subst, sym, ◌∙◌}
+use mathlib.Core.Path.{◌≡◌, refl, sym, ◌∙◌}
 use mathlib.Core.List.{List, []}
 use native.Mathlib.Omega.{arith}
 use borrow.Author.Tests.{eq-eqb, ne_eqb, le-ltb, lt-leb}
-use lib.Dec.{eqb}
 use lib.ListN.{length, get_or}
-use Rattle.octets.specs.Text.{pick}
 use Rattle.octets.specs.Emit.{top, Emits, on_from}
-use Rattle.cells.specs.Items.{record_of, flat}
+use Rattle.cells.specs.Items.{flat}
 use Rattle.cells.specs.Answer.{answer_to, Parsed}
-use Rattle.cells.specs.declared.answer.Answer.{Answer}
 use Rattle.cells.specs.declared.answer.Answer.TheVariants.{Whole, Short}
 use Rattle.cells.proofs.Answers as answers
 use Rattle.clnp.specs.Pdu.{clnp_cells}
 use Rattle.esis.specs.Pdu.{esis_cells}
 use Rattle.idrp.specs.Pdu.{idrp_cells}
-use Rattle.network.specs.Network.{compressed_members, compressed_cells, cells_by, network_cells}
+use Rattle.network.specs.Network.{compressed_cells, cells_by, network_cells}
 
 pub five : (s : List ℕ) → length (compressed_cells s) ≡ 5
 unfolding compressed_cells flat

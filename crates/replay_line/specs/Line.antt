@@ -6,7 +6,6 @@ use Rattle.octets.specs.Text.{pick}
 use Rattle.replay_line.specs.Word.{word_of, behind_word, is_number, value_of, is_packet, packet_in}
 use Rattle.replay_line.specs.declared.line.Store.{Store}
 use Rattle.replay_line.specs.declared.line.Store.TheVariants as store
-use Rattle.replay_line.specs.declared.line.Order.{Order}
 use Rattle.replay_line.specs.declared.line.Order.TheVariants as order
 use Rattle.replay_line.specs.declared.line.Line.{Line}
 use Rattle.replay_line.specs.declared.line.Line.TheVariants as line

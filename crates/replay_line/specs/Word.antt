@@ -1,5 +1,5 @@
 -- The words of a line: numbers and octets in hex.
-use Rattle.std.specs.Prelude.{ℕ, ◌+◌, ◌-◌, ◌*◌, ◌/◌, ◌%◌, Bool, true, false, ◌&&◌, ◌||◌, List, [], ◌∷◌, leb, eqb, length, get_or, drop}
+use Rattle.std.specs.Prelude.{ℕ, ◌+◌, ◌-◌, ◌*◌, ◌%◌, Bool, ◌&&◌, ◌||◌, List, [], ◌∷◌, leb, eqb, length, get_or, drop}
 use Rattle.octets.specs.Text.{pick, value_from}
 use Rattle.octets.specs.Tests.{all}
 use Rattle.replay_line.specs.declared.word.Number.{Number}

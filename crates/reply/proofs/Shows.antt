@@ -1,15 +1,14 @@
 -- What is parsed and then printed.
-use Prim.Native.Nat.{ℕ, ◌+◌, ◌≤◌, ◌<◌}
+use Prim.Native.Nat.{ℕ, ◌≤◌}
 use mathlib.Core.Path.{◌≡◌, refl, sym, ap, subst, ◌∙◌}
 use mathlib.Core.Bool.{Bool, true, false}
-use mathlib.Core.List.{List, [], ◌++◌}
+use mathlib.Core.List.{List, []}
 use native.Mathlib.Omega.{arith}
-use borrow.Author.Tests.{leb-true}
 use lib.Dec.{ltb, leb, eqb}
 use lib.ListN.{length, take, drop, length-append}
 use lib.Seq.{take_at, length-take-le}
 use Rattle.octets.specs.Text.{pick}
-use Rattle.cells.specs.Answer.{Parsed, answer_to, output_of, count_of, number_of}
+use Rattle.cells.specs.Answer.{Parsed, answer_to, count_of, number_of}
 use Rattle.cells.specs.declared.answer.Answer.{Answer}
 use Rattle.cells.specs.declared.answer.Answer.TheVariants.{Whole, TooLong, Unreadable, Short}
 use Rattle.print.specs.Print.{printed, Prints}

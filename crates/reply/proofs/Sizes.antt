@@ -15,11 +15,11 @@ use Rattle.print.specs.Print.{printed}
 use Rattle.x25.specs.Packet.{x25_cells}
 use Rattle.network.specs.Network.{network_cells}
 use Rattle.replay_line.specs.Line.{line_of, packet_of}
-use Rattle.replay_line.specs.Said.{or_dash, said_with, text_said}
+use Rattle.replay_line.specs.Said.{or_dash, said_with}
 use Rattle.replay_line.specs.declared.line.Line.{Line}
 use Rattle.replay_line.specs.declared.line.Line.TheVariants.{Bad, X25, Network, Ordered}
 use Rattle.reply.specs.Shown.{shown_by, shown, text_with}
-use Rattle.reply.specs.Reply.{said_of, bad_said, reply_to, reply_of}
+use Rattle.reply.specs.Reply.{said_of, reply_to, reply_of}
 
 -- ---- the words of a line
 front-short : (t : Bool) (k : ℕ) (xs : List ℕ) → length xs ≤ k → length (pick t xs []) ≤ k

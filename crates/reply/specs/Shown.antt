@@ -1,5 +1,5 @@
 -- A record, parsed and printed: the parser's answer if that is not 0, and else the printer's.
-use Rattle.std.specs.Prelude.{ℕ, ◌≡◌, List, [], length, take}
+use Rattle.std.specs.Prelude.{ℕ, ◌≡◌, List, [], length}
 use Rattle.cells.specs.Answer.{answer_to, output_of}
 use Rattle.cells.specs.declared.answer.Answer.{Answer}
 use Rattle.cells.specs.declared.answer.Answer.TheVariants.{Whole, TooLong, Unreadable, Short}

@@ -2,7 +2,7 @@
 -- Words: 0 kind, 1 links, 2 blocks, 3 reserve, 4 cap; from 8 on sixteen block counts; from 24 on sixteen unit counts; from 40
 -- on 128 places of 12 words, eight for each link: six of the key, a note, the length of the body and of the top, the blocks
 -- of the body and of the top, and one to spare.
-use Rattle.std.specs.Prelude.{ℕ, zero, suc, ◌+◌, ◌*◌, ◌-◌, ◌/◌, ◌≤◌, Bool, true, false, cond, not, ◌&&◌, List, ltb, leb, eqb, length, get_or, take, drop}
+use Rattle.std.specs.Prelude.{ℕ, zero, suc, ◌+◌, ◌*◌, ◌-◌, Bool, cond, not, ◌&&◌, List, ltb, leb, eqb, length, get_or, take, drop}
 use Rattle.octets.specs.Tests.{all}
 use Rattle.model.specs.Cost.{blocks, unit_cost}
 

@@ -29,7 +29,7 @@ use Rattle.x25.specs.declared.packet.Packet.{Packet}
 use Rattle.x25.proofs.Facilities.{Within, fac_within}
 use Rattle.x25.proofs.Members.{head_of, causes_of, calls_of, members_are}
 use Rattle.x25.proofs.Cells.{cells_are}
-use Rattle.x25.proofs.Cases.{every, fits}
+use Rattle.x25.proofs.Cases.{fits}
 use Rattle.x25.proofs.Numbers.{Low, numbers}
 
 -- ---- rows are good, for an input of n octets

@@ -17,8 +17,7 @@ overflow_add-n-in-loop-t c =
     omega (arith, c.loop-t.invariant, c.requires, tick-few c.args.list.now c.args.home.now c.args.i c.args.x c.loop-t.n c.loop-t.t _ _ c.loop-t.invariant.1 c.loop-t.invariant.2 c.same.ensures c.same-in-loop-t.ensures)
 
 pub loop-t-preserved : goal.loop-t-preserved
-loop-t-preserved c =
-    (
+loop-t-preserved c = (
   omega arith,
   tick-few c.args.list.now c.args.home.now c.args.i c.args.x c.loop-t.n c.loop-t.t _ _ c.loop-t.invariant.1 c.loop-t.invariant.2 c.same.ensures c.same-in-loop-t.ensures,
   tick c.args.list.now c.args.home.now c.args.i c.args.x c.loop-t.n c.loop-t.t _ _ c.loop-t.invariant.1 c.loop-t.invariant.2 c.same.ensures c.same-in-loop-t.ensures,
