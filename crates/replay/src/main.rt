@@ -133,7 +133,13 @@ fn run(
 {
     let mut state = State { size: 0, lines: 0 };
     for _ in 0..u64::MAX {
-        let n = from.read(buf)?;
+        let n = match from.read(buf) {
+            Ok(n) => n,
+            Err(e) => {
+                answer_last(to, state, line, packet, cells, text, out)?;
+                return Err(e);
+            }
+        };
         if n == 0 {
             return answer_last(to, state, line, packet, cells, text, out);
         }
