@@ -23,7 +23,7 @@ both true b e = (refl, e)
 both false true e = (e, refl)
 both false false e = (e, e)
 
--- a test of a function's answer, turned round
+-- what a definition says, from what the function that is equal to it answered
 pub off : {b x : Bool} → b ≡ x → b ≡ false → x ≡ false
 off e h = sym e ∙ h
 

@@ -14,7 +14,7 @@ use Rattle.names.specs.Numbers.{k_addresses}
 use Rattle.cells.specs.Items.{Items, none, leaf, group, part, in_list, ◌⊕◌}
 use Rattle.esis.specs.Pdu.{address_ok, address_items, address_end}
 
--- a test of a function's answer, turned round
+-- what a definition says, from what the function that is equal to it answered
 pub off : {b x : Bool} → b ≡ x → b ≡ false → x ≡ false
 off e h = sym e ∙ h
 

@@ -44,6 +44,7 @@ pub extern "C" fn atn_parse_x25(b: &[u8], out: &mut [u64], said: &mut [u64]) -> 
 }
 
 // The number of an answer; its count is said.
+#[tactic(auto, using(crate::proofs::Said::one))]
 fn tell(a: Answer, said: &mut [u64]) -> u64
     ensures value { result ≡ number_of a }
     ensures said_after { said.new ≡ put said.old 0 (count_of a ∷ []) }
@@ -54,6 +55,7 @@ fn tell(a: Answer, said: &mut [u64]) -> u64
 
 // The answer; the count of cells is said.
 #[unsafe(no_mangle)]
+#[tactic(auto, using(crate::proofs::Said::told))]
 pub extern "C" fn atn_parse_cotp(b: &[u8], out: &mut [u64], said: &mut [u64]) -> u64
     ensures { Told (length b.now) (cotp_cells b.now) out.old out.new result said.old said.new }
 {
@@ -63,6 +65,7 @@ pub extern "C" fn atn_parse_cotp(b: &[u8], out: &mut [u64], said: &mut [u64]) ->
 
 // The answer; the length of the text is said.
 #[unsafe(no_mangle)]
+#[tactic(auto, using(crate::proofs::Said::told))]
 pub extern "C" fn atn_print(cells: &[u64], input: &[u8], out: &mut [u8], said: &mut [u64]) -> u64
     ensures { Told (length input.now) (printed cells.now input.now) out.old out.new result said.old said.new }
 {
@@ -95,6 +98,7 @@ pub extern "C" fn atn_cotp_dt_segment(b: &[u8], said: &mut [u64]) -> bool
 
 // The answer; the count of cells is said.
 #[unsafe(no_mangle)]
+#[tactic(auto, using(crate::proofs::Said::told))]
 pub extern "C" fn atn_parse_clnp(b: &[u8], out: &mut [u64], said: &mut [u64]) -> u64
     ensures { Told (length b.now) (clnp_cells b.now) out.old out.new result said.old said.new }
 {
@@ -104,6 +108,7 @@ pub extern "C" fn atn_parse_clnp(b: &[u8], out: &mut [u64], said: &mut [u64]) ->
 
 // The answer; the count of cells is said.
 #[unsafe(no_mangle)]
+#[tactic(auto, using(crate::proofs::Said::told))]
 pub extern "C" fn atn_parse_network(b: &[u8], out: &mut [u64], said: &mut [u64]) -> u64
     ensures { Told (length b.now) (network_cells b.now) out.old out.new result said.old said.new }
 {

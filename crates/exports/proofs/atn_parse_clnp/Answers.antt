@@ -1,5 +1,0 @@
-use Rattle.exports.proofs.Said.{told}
-use Rattle.exports.proofs.atn_parse_clnp.Goals as goal
-
-pub returns : goal.returns
-returns c = told c.parse_clnp-a.ensures c.tell.ensures.value c.tell.ensures.said_after
