@@ -129,8 +129,10 @@ fn clnp(
     now: f64,
     note: u64,
 ) -> usize {
-    let j = s.begin(link, key, now);
-    let new = j == s.units(link);
+    let (new, j) = match s.begin(link, key, now) {
+        8 => (true, s.units(link)),
+        j => (false, j),
+    };
     let (have, head) = if new {
         (0, 0)
     } else {

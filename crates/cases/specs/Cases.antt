@@ -1,15 +1,12 @@
 -- The cases of document 01 that are marked P, in one list.
-use Rattle.std.specs.Prelude.{◌≡◌, List, [], ◌∷◌, ◌++◌, ℕ, replicate}
+use Rattle.std.specs.Prelude.{◌≡◌, List, [], ◌∷◌, ◌++◌, ℕ, Some, None, replicate}
 use Rattle.names.specs.Numbers.{k_lcn, k_kind, k_more, k_cause, t_restart_request}
 use Rattle.cells.specs.Items.{Items, none, leaf, number, flag, text, record_of, flat}
 use Rattle.cells.specs.Answer.{number_of}
 use Rattle.x25.specs.Packet.{x25_cells, x25_answer}
 use Rattle.cotp.specs.Segment as cotp
-use Rattle.cotp.specs.declared.segment.Segment.TheVariants as tpdu
 use Rattle.clnp.specs.Segment as clnp
 use Rattle.clnp.specs.declared.segment.Segment.{Segment}
-use Rattle.clnp.specs.declared.segment.Segment.TheVariants.{Fields}
-use Rattle.clnp.specs.declared.segment.Addresses.TheVariants as addresses
 
 -- an X.25 packet has the cells of the record with these members; the answer on one is this number, whatever room is lent; octets
 -- are no piece for a COTP push; octets have this segmentation part of CLNP, and no addresses that can be read
@@ -22,8 +19,8 @@ pub data Case : Type 0 where
 abbrev pub Holds : Case → Type 0
 Holds (recorded s kids) = x25_cells s ≡ flat 0 (record_of kids)
 Holds (answered s n) = (room : ℕ) → number_of (x25_answer s room) ≡ n
-Holds (no_piece s) = cotp.segment_of s ≡ tpdu.Absent
-Holds (unaddressed s g) = (clnp.segment_of s ≡ g) × (clnp.addresses_of s ≡ addresses.Absent)
+Holds (no_piece s) = cotp.segment_of s ≡ None
+Holds (unaddressed s g) = (clnp.segment_of s ≡ Some g) × (clnp.addresses_of s ≡ None)
 
 abbrev pub Every : List Case → Type 0
 Every [] = Unit
@@ -51,7 +48,7 @@ abbrev pub far_destination : Case
 far_destination =
     unaddressed
     (0x81 ∷ 0x27 ∷ 0x01 ∷ 0x10 ∷ 0xDC ∷ 0x00 ∷ 0x28 ∷ 0x00 ∷ 0x00 ∷ 0x15 ∷ (replicate 21 0x0A ++ (0x01 ∷ 0x0B ∷ 0x00 ∷ 0x07 ∷ 0x00 ∷ 0x02 ∷ 0x00 ∷ 0x2A ∷ 0x43 ∷ [])))
-    (Fields 7 2 42 1 39)
+    (record { id = 7; offset = 2; total = 42; more = 1; header = 39 })
 
 abbrev pub cases : List Case
 cases = restart ∷ two_octets ∷ no_length_lem ∷ longest ∷ far_destination ∷ []

@@ -12,9 +12,9 @@ use lib.Dec.{ltb, leb, eqb}
 use Rattle.octets.specs.Text.{pick}
 use Rattle.octets.specs.Emit.{top, on_from, Emits}
 use Rattle.octets.proofs.Put.{put-fits}
-use Rattle.cells.specs.Answer.{number_of, answer_to, output_of, Parsed}
-use Rattle.cells.specs.declared.answer.Answer.{Answer}
-use Rattle.cells.specs.declared.answer.Answer.TheVariants.{Whole, TooLong, Unreadable, Short}
+use Rattle.cells.specs.Answer.{Answer, number_of, answer_to, output_of, Parsed}
+use Rattle.std.specs.Prelude.{Ok, Err}
+use Rattle.cells.specs.declared.answer.Refusal.TheVariants.{TooLong, Unreadable, Short}
 
 -- any two results are equal
 pub determined : {size : ℕ} {xs old new new' : List ℕ} {r r' : Answer} → Parsed size xs old r new → Parsed size xs old r' new' → (r ≡ r') × (new ≡ new')
@@ -34,16 +34,16 @@ from_start {old} {new} {xs} {n} e k h =
     e.held ∙ put-fits old 0 xs h₂ ∙ rw (zero-add, ← k)
 
 module _ {size : ℕ} {xs old : List ℕ} where
-  pub too_long : 65535 < size → Parsed size xs old TooLong old
+  pub too_long : 65535 < size → Parsed size xs old (Err TooLong) old
   unfolding answer_to
   too_long h = record { answer = simp (lt-ltb _ _ h); output = refl }
 
-  pub unreadable : size ≤ 65535 → xs ≡ [] → Parsed size xs old Unreadable old
+  pub unreadable : size ≤ 65535 → xs ≡ [] → Parsed size xs old (Err Unreadable) old
   unfolding answer_to
   unreadable h e = record { answer = simp (le-ltb _ _ h, e); output = refl }
 
   -- ys, which are xs, were put into o, which is old
-  pub whole : {new o ys : List ℕ} {k : ℕ} → size ≤ 65535 → o ≡ old → ys ≡ xs → 0 < k → k ≤ length old → length old < top → Emits o 0 ys new k → Parsed size xs old (Whole k) new
+  pub whole : {new o ys : List ℕ} {k : ℕ} → size ≤ 65535 → o ≡ old → ys ≡ xs → 0 < k → k ≤ length old → length old < top → Emits o 0 ys new k → Parsed size xs old (Ok k) new
   unfolding answer_to
   whole {new} {o} {ys} {k} h eo ey p l b e =
       let e' = subst (λ (z : List ℕ). Emits old 0 z new k) ey (subst (λ (z : List ℕ). Emits z 0 ys new k) eo e) in
@@ -53,7 +53,7 @@ module _ {size : ℕ} {xs old : List ℕ} where
       record { answer = simp (le-ltb _ _ h, ne_eqb _ _ n, le-leb _ _ f, w); output = from_start e' w l }
 
   -- ys, which are xs, were counted, and are too many
-  pub short : {new p o ys : List ℕ} {k : ℕ} → size ≤ 65535 → new ≡ old → ys ≡ xs → length old < k → Emits o 0 ys p k → Parsed size xs old Short new
+  pub short : {new p o ys : List ℕ} {k : ℕ} → size ≤ 65535 → new ≡ old → ys ≡ xs → length old < k → Emits o 0 ys p k → Parsed size xs old (Err Short) new
   unfolding answer_to on_from
   short {new} {p} {o} {ys} {k} h eo ey l e =
       let m : length ys ≡ length xs = ap length ey in
@@ -71,7 +71,7 @@ no_front [] o h = refl
 no_front (x ∷ l) o h = absurd (omega (arith, h))
 
 -- an output with room for the result is not short
-not_ten : (a b : Bool) (k : ℕ) → number_of (pick a TooLong (pick b Unreadable (Whole k))) ≡ 10 → ⊥
+not_ten : (a b : Bool) (k : ℕ) → number_of (pick a (Err TooLong) (pick b (Err Unreadable) (Ok k))) ≡ 10 → ⊥
 not_ten true b k h = omega (arith, h)
 not_ten false true k h = omega (arith, h)
 not_ten false false k h = omega (arith, h)
@@ -81,7 +81,7 @@ unfolding answer_to
 enough n xs room h e = not_ten (ltb 65535 n) (eqb (length xs) 0) (length xs) (simp (le-leb (length xs) room h) at e)
 
 -- an input with a result is not unreadable
-not_fifteen : (a b : Bool) (k : ℕ) → number_of (pick a TooLong (pick b (Whole k) Short)) ≡ 15 → ⊥
+not_fifteen : (a b : Bool) (k : ℕ) → number_of (pick a (Err TooLong) (pick b (Ok k) (Err Short))) ≡ 15 → ⊥
 not_fifteen true b k h = omega (arith, h)
 not_fifteen false true k h = omega (arith, h)
 not_fifteen false false k h = omega (arith, h)

@@ -1,4 +1,5 @@
 -- The cells of a good tree are read back as that tree.
+use Rattle.std.specs.Prelude.{Option, Some, None}
 use mathlib.Core.Path.{◌≡◌, refl, ◌∙◌}
 use mathlib.Core.List.{List, [], ◌∷◌, ◌++◌, append_assoc}
 use mathlib.Core.Bool.{Bool, true, false}
@@ -21,7 +22,7 @@ use Rattle.cells.proofs.Classes.{opening, key-ok}
 
 -- what a leaf's cell is read as
 record Fine (n : ℕ) (k : Bool) (d f : ℕ) (v : Leaf) (c : ℕ) : Type 0 where
-  class : class_of n k d c ≡ Leafy
+  class : class_of n k d c ≡ (Some Leafy)
   field : field_of c ≡ f
   value : leaf_in c ≡ v
 
@@ -81,7 +82,7 @@ module _ (n : ℕ) (k : Bool) (d f : ℕ) (hd : d < 16) (hf : field_ok k f ≡ t
       let b₄ = value-back f f_list d 0 0 (omega arith) hd (omega arith) (omega arith) in
       (simp (b₀, b₁, b₂, b₃, b₄, hf, eq-eqb d d refl), b₀)
 
-class-closes : (n : ℕ) (k : Bool) (d : ℕ) → d < 16 → class_of n k (d + 1) (close_cell d) ≡ Close
+class-closes : (n : ℕ) (k : Bool) (d : ℕ) → d < 16 → class_of n k (d + 1) (close_cell d) ≡ (Some Close)
 unfolding class_of closes bare
 class-closes n k d hd =
     simp (
@@ -94,7 +95,7 @@ class-closes n k d hd =
     )
 
 -- one cell is read
-next : (n : ℕ) (k : Bool) (d c : ℕ) (q : Class) (acc : Items) (st : Stack) (cs : List ℕ) → height st + 1 ≡ d → class_of n k d c ≡ q
+next : (n : ℕ) (k : Bool) (d c : ℕ) (q : Option Class) (acc : Items) (st : Stack) (cs : List ℕ) → height st + 1 ≡ d → class_of n k d c ≡ q
     → read n (c ∷ cs) (going k acc st) ≡ and_then (turn q c k acc st) (read n cs)
 unfolding read step
 next n k d c q acc st cs e h = rw (e, h)
@@ -103,10 +104,10 @@ opened : (n : ℕ) (k : Bool) (d f : ℕ) (g : Bool) (acc : Items) (st : Stack) 
     → read n (open_cell d g f ∷ cs) (going k acc st) ≡ read n cs (going g items.none (push k f acc st))
 opened n k d f true acc st cs e hd hf =
     let w = class-opens n k d f hd hf true in
-    next n k d (open_cell d true f) Object acc st cs e w.0 ∙ rw w.1
+    next n k d (open_cell d true f) (Some Object) acc st cs e w.0 ∙ rw w.1
 opened n k d f false acc st cs e hd hf =
     let w = class-opens n k d f hd hf false in
-    next n k d (open_cell d false f) Entries acc st cs e w.0 ∙ rw w.1
+    next n k d (open_cell d false f) (Some Entries) acc st cs e w.0 ∙ rw w.1
 
 complete : (n : ℕ) (is : Items) (k : Bool) (d : ℕ) (acc : Items) (st : Stack) (rest : List ℕ) → n < 65536 → height st + 1 ≡ d → GoodRow n k d is
     → read n (flat d is ++ rest) (going k acc st) ≡ read n rest (going k (acc ⊕ is) st)
@@ -114,18 +115,18 @@ unfolding flat
 complete n items.none k d acc st rest small e h = rw ⊕-none
 complete n (leaf f v xs) k d acc st rest small e h =
     let w = fine n k d f h.0 (key-ok k f h.1) small v h.2 in
-    next n k d (leaf_cell d f v) Leafy acc st (flat d xs ++ rest) e w.class
+    next n k d (leaf_cell d f v) (Some Leafy) acc st (flat d xs ++ rest) e w.class
     ∙ rw (w.field, w.value) (complete n xs k d (acc ⊕ leaf f v items.none) st rest small e h.3 ∙ rw ⊕-assoc)
 complete n (group g f is xs) k d acc st rest small e h =
     let up : suc (height st) + 1 ≡ d + 1 = omega arith in
     opened n k d f g acc st ((flat (d + 1) is ++ (close_cell d ∷ flat d xs)) ++ rest) e h.0 (key-ok k f h.1)
     ∙ rw (append_assoc (flat (d + 1) is) (close_cell d ∷ flat d xs) rest)
     (complete n is g (d + 1) items.none (push k f acc st) (close_cell d ∷ (flat d xs ++ rest)) small up h.2
-    ∙ next n g (d + 1) (close_cell d) Close is (push k f acc st) (flat d xs ++ rest) up (class-closes n g d h.0)
+    ∙ next n g (d + 1) (close_cell d) (Some Close) is (push k f acc st) (flat d xs ++ rest) up (class-closes n g d h.0)
     ∙ complete n xs k d (acc ⊕ group g f is items.none) st rest small e h.3 ∙ rw ⊕-assoc)
 
 pub complete_record : (n : ℕ) (is : Items) → n < 65536 → Good n is → items_of n (flat 0 (record_of is)) ≡ some is
 unfolding items_of read step flat
 complete_record n is small h =
     rw (eq-eqb (open_cell 0 true 0) (open_cell 0 true 0) refl)
-    (complete n is true 1 items.none root (close_cell 0 ∷ []) small refl h ∙ next n true 1 (close_cell 0) Close is root [] refl (class-closes n true 0 (omega arith)))
+    (complete n is true 1 items.none root (close_cell 0 ∷ []) small refl h ∙ next n true 1 (close_cell 0) (Some Close) is root [] refl (class-closes n true 0 (omega arith)))

@@ -8,7 +8,8 @@ use lib.ListN.{length}
 use Rattle.octets.specs.Emit.{top, on_from, Emits}
 use Rattle.cells.specs.Items.{Items, record_of, flat}
 use Rattle.cells.specs.Answer.{Parsed}
-use Rattle.cells.specs.declared.answer.Answer.TheVariants.{Whole, Short}
+use Rattle.std.specs.Prelude.{Ok, Err}
+use Rattle.cells.specs.declared.answer.Refusal.TheVariants.{Short}
 use Rattle.cells.proofs.Rows.{group-size}
 use Rattle.cells.proofs.Answers as answers
 
@@ -31,17 +32,17 @@ some members = omega (arith, group-size 0 true 0 members)
 -- an input of size octets whose result xs is the record of these members
 module _ {size : ℕ} {xs old : List ℕ} (members : Items) (low : size ≤ 65535) (e : cells members ≡ xs) where
   -- one pass, with room for every record
-  pub says_once : {new : List ℕ} {n : ℕ} → length xs ≤ 4 * size + 64 → 4 * size + 64 ≤ length old → length old < top → Emits old 0 (cells members) new n → Parsed size xs old (Whole n) new
+  pub says_once : {new : List ℕ} {n : ℕ} → length xs ≤ 4 * size + 64 → 4 * size + 64 ≤ length old → length old < top → Emits old 0 (cells members) new n → Parsed size xs old (Ok n) new
   says_once thin h b w =
       let p = placed (length old) w (some members) (omega (arith, thin, ap length e)) in
       answers.whole low refl e p.0 p.1 b w
 
   -- counted, and too many
-  pub says-short : {o p new : List ℕ} {n : ℕ} → new ≡ old → length old < n → Emits o 0 (cells members) p n → Parsed size xs old Short new
+  pub says-short : {o p new : List ℕ} {n : ℕ} → new ≡ old → length old < n → Emits o 0 (cells members) p n → Parsed size xs old (Err Short) new
   says-short q h w = answers.short low q e h w
 
   -- counted, and then written
-  pub says-whole : {o p q new : List ℕ} {n m : ℕ} → o ≡ old → n ≤ length old → length old < top → Emits p 0 (cells members) q n → Emits o 0 (cells members) new m → Parsed size xs old (Whole n) new
+  pub says-whole : {o p q new : List ℕ} {n m : ℕ} → o ≡ old → n ≤ length old → length old < top → Emits p 0 (cells members) q n → Emits o 0 (cells members) new m → Parsed size xs old (Ok n) new
   says-whole {o} {p} {q} {new} {n} {m} z h b v w =
       let same : m ≡ n = w.place ∙ sym v.place in
       answers.whole low z e (some-place v (some members)) h b (subst (λ (i : ℕ). Emits o 0 (cells members) new i) same w)

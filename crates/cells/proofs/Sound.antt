@@ -1,4 +1,5 @@
 -- Cells that are read as a tree are the cells of that tree, and it is a good one.
+use Rattle.std.specs.Prelude.{Option, Some, None}
 use mathlib.Core.Path.{◌≡◌, refl, sym, ap, ◌∙◌, subst}
 use mathlib.Core.List.{List, [], ◌∷◌, ◌++◌, append_assoc}
 use mathlib.Core.Bool.{Bool, true, false}
@@ -13,7 +14,7 @@ use Rattle.cells.specs.Items.{Items, leaf, group, ◌⊕◌, record_of, leaf_cel
 use Rattle.cells.specs.Read.{leaf_ok, leaf_of, leaf_in, bare, class_of, Stack, root, push, height, going, done, closed, turn, step, and_then, read, items_of}
 use Rattle.cells.specs.Good.{Key, GoodLeaf, GoodRow, Good}
 use Rattle.cells.specs.declared.class.Class.{Class}
-use Rattle.cells.specs.declared.class.Class.TheVariants.{Leafy, Object, Entries, Close, Bad}
+use Rattle.cells.specs.declared.class.Class.TheVariants.{Leafy, Object, Entries, Close}
 use Rattle.cells.proofs.Packs.{whole, value_low, depth_low}
 use Rattle.cells.proofs.Rows.{flat-⊕, good-⊕}
 use Rattle.cells.proofs.Leaves.{number_is, flag_is, part-is, text-is, prefix-is, octet-is, word-is}
@@ -93,7 +94,7 @@ module _ (n d f len v : ℕ) (hv : v < 4294967296) where
 
 -- ---- one cell: it is the cell of what it was read as
 
-leaf-back : (n : ℕ) (k : Bool) (d c : ℕ) → class_of n k d c ≡ Leafy → (leaf_cell d (field_of c) (leaf_in c) ≡ c) × GoodLeaf n (leaf_in c)
+leaf-back : (n : ℕ) (k : Bool) (d c : ℕ) → class_of n k d c ≡ (Some Leafy) → (leaf_cell d (field_of c) (leaf_in c) ≡ c) × GoodLeaf n (leaf_in c)
 leaf-back n k d c e =
     let w = class-leaf n k d c e in
     let b = back n d (field_of c) (len_of c) (value_of c) (value_low c) (form_of c) w.2 in
@@ -109,7 +110,7 @@ open_back n k d c g e =
     let w = class_open n k d c g e in
     bare-back c (open_form g) d w.2 w.0 w.3
 
-close-back : (n : ℕ) (k : Bool) (d c : ℕ) → class_of n k (d + 1) c ≡ Close → c ≡ close_cell d
+close-back : (n : ℕ) (k : Bool) (d c : ℕ) → class_of n k (d + 1) c ≡ (Some Close) → c ≡ close_cell d
 close-back n k d c e =
     let w = class-close n k (d + 1) c e in
     bare-back c 6 d w.2 (omega (arith, w.0)) w.3 ∙ ap (λ (x : ℕ). cell_of x 6 d 0 0) w.1
@@ -147,11 +148,11 @@ on : (a b cs w : List ℕ) (c : ℕ) → b ≡ a ++ (c ∷ []) → b ++ cs ≡ w
 on a b cs w c e h = sym (append_assoc a (c ∷ []) cs) ∙ rw (← e) h
 
 module _ (n : ℕ) (k : Bool) (acc : Items) (st : Stack) (c : ℕ) where
-  grow-leaf : class_of n k (height st + 1) c ≡ Leafy → before k (acc ⊕ leaf (field_of c) (leaf_in c) items.none) st ≡ before k acc st ++ (c ∷ [])
+  grow-leaf : class_of n k (height st + 1) c ≡ (Some Leafy) → before k (acc ⊕ leaf (field_of c) (leaf_in c) items.none) st ≡ before k acc st ++ (c ∷ [])
   unfolding flat
   grow-leaf q = before-⊕ k acc _ st ∙ rw (leaf-back n k (height st + 1) c q).0
 
-  good-leaf : class_of n k (height st + 1) c ≡ Leafy → GoodRow n k (height st + 1) acc → GoodRow n k (height st + 1) (acc ⊕ leaf (field_of c) (leaf_in c) items.none)
+  good-leaf : class_of n k (height st + 1) c ≡ (Some Leafy) → GoodRow n k (height st + 1) acc → GoodRow n k (height st + 1) (acc ⊕ leaf (field_of c) (leaf_in c) items.none)
   good-leaf q g =
       let w = class-leaf n k (height st + 1) c q in
       let low : height st + 1 < 16 = omega (arith, w.0, depth_low c) in
@@ -165,7 +166,7 @@ module _ (n : ℕ) (k : Bool) (acc : Items) (st : Stack) (c : ℕ) where
   unfolding GoodStack
   good_open g q r s = (open_low n k (height st + 1) c g q, ok-key k (field_of c) (class_open n k (height st + 1) c g q).1, r, s)
 
-grow-close : (n : ℕ) (k k' : Bool) (acc acc' : Items) (f : ℕ) (st : Stack) (c : ℕ) → class_of n k (suc (height st) + 1) c ≡ Close
+grow-close : (n : ℕ) (k k' : Bool) (acc acc' : Items) (f : ℕ) (st : Stack) (c : ℕ) → class_of n k (suc (height st) + 1) c ≡ (Some Close)
     → before k' (acc' ⊕ group k f acc items.none) st ≡ before k acc (push k' f acc' st) ++ (c ∷ [])
 unfolding flat before
 grow-close n k k' acc acc' f st c q =
@@ -182,7 +183,7 @@ good-close n k k' acc acc' f st r s =
     (good-⊕ n k' (height st + 1) acc' _ s.2 (s.0, s.1, r', tt), s.3)
 
 module _ (n : ℕ) (c : ℕ) (cs : List ℕ) (t : Items) (ih : (k : Bool) (acc : Items) (st : Stack) → read n cs (going k acc st) ≡ some t → Said n k acc st cs t) where
-  shut : (k : Bool) (acc : Items) (st : Stack) → class_of n k (height st + 1) c ≡ Close → read n cs (closed k acc st) ≡ some t → Said n k acc st (c ∷ cs) t
+  shut : (k : Bool) (acc : Items) (st : Stack) → class_of n k (height st + 1) c ≡ (Some Close) → read n cs (closed k acc st) ≡ some t → Said n k acc st (c ∷ cs) t
   unfolding before GoodStack flat
   shut k acc root q h =
       let w = ended n cs acc t h in
@@ -206,17 +207,17 @@ module _ (n : ℕ) (c : ℕ) (cs : List ℕ) (t : Items) (ih : (k : Bool) (acc :
         good = λ r s. w.good tt (good_open n k acc st c g q r s);
       }
 
-  by : (k : Bool) (acc : Items) (st : Stack) (q : Class) → class_of n k (height st + 1) c ≡ q → and_then (turn q c k acc st) (read n cs) ≡ some t → Said n k acc st (c ∷ cs) t
-  by k acc st Leafy q h =
+  by : (k : Bool) (acc : Items) (st : Stack) (q : Option Class) → class_of n k (height st + 1) c ≡ q → and_then (turn q c k acc st) (read n cs) ≡ some t → Said n k acc st (c ∷ cs) t
+  by k acc st (Some Leafy) q h =
       let w = ih k (acc ⊕ leaf (field_of c) (leaf_in c) items.none) st h in
       record {
         cells = on (before k acc st) _ cs _ c (grow-leaf n k acc st c q) w.cells;
         good = λ r s. w.good (good-leaf n k acc st c q r) s;
       }
-  by k acc st Object q h = by_open k acc st true q h
-  by k acc st Entries q h = by_open k acc st false q h
-  by k acc st Close q h = shut k acc st q h
-  by k acc st Bad q h = let z : ◌≡◌ {A = ℕ} 0 1 = cc in absurd (omega arith)
+  by k acc st (Some Object) q h = by_open k acc st true q h
+  by k acc st (Some Entries) q h = by_open k acc st false q h
+  by k acc st (Some Close) q h = shut k acc st q h
+  by k acc st None q h = let z : ◌≡◌ {A = ℕ} 0 1 = cc in absurd (omega arith)
 
 sound : (n : ℕ) (cs : List ℕ) (t : Items) (k : Bool) (acc : Items) (st : Stack) → read n cs (going k acc st) ≡ some t → Said n k acc st cs t
 unfolding read step

@@ -11,14 +11,16 @@
 --   every named part inside the input      `leaf_ok`, fPart; `prefix_ok`
 --   unused fields are 0                    lengths in `leaf_ok`, `below`, `text_ok`; `bare`; a closing cell's field in `closes`
 use Rattle.std.specs.Prelude.{List, [], ◌∷◌, Bool, true, false, ◌&&◌, ℕ, zero, suc, ◌+◌, ◌/◌, ◌%◌, eqb, leb, ltb}
-use Rattle.std.proofs.Math.Option.{Option, none, some}
+use Rattle.std.specs.Prelude.{Option, Some, None}
+use Rattle.std.proofs.Math.Option as math
+use Rattle.std.proofs.Math.Option.{none, some}
 use Rattle.octets.specs.Text.{pick}
 use Rattle.names.specs.Numbers.{last_field, last_text}
 use Rattle.cells.specs.Cell.{field_of, form_of, depth_of, len_of, value_of, f_number, f_flag, f_part, f_text, f_object, f_list, f_close, f_prefix, f_octet, f_word}
 use Rattle.cells.specs.Items as items
 use Rattle.cells.specs.Items.{Leaf, number, flag, part, text, prefix, octet, word, Items, ◌⊕◌, open_cell}
 use Rattle.cells.specs.declared.class.Class.{Class}
-use Rattle.cells.specs.declared.class.Class.TheVariants.{Leafy, Object, Entries, Close, Bad}
+use Rattle.cells.specs.declared.class.Class.TheVariants.{Leafy, Object, Entries, Close}
 
 -- exactly an object's members have a key
 unfoldable pub field_ok : Bool → ℕ → Bool
@@ -73,14 +75,14 @@ unfoldable pub placed : Bool → ℕ → ℕ → Bool
 placed keyed d c = eqb (depth_of c) d && field_ok keyed (field_of c)
 
 -- what an item is
-unfoldable pub item_class : ℕ → ℕ → Class
+unfoldable pub item_class : ℕ → ℕ → Option Class
 item_class n c =
-    pick (eqb (form_of c) f_object) (pick (bare c) Object Bad)
-    (pick (eqb (form_of c) f_list) (pick (bare c) Entries Bad) (pick (leaf_ok n (form_of c) (len_of c) (value_of c)) Leafy Bad))
+    pick (eqb (form_of c) f_object) (pick (bare c) (Some Object) None)
+    (pick (eqb (form_of c) f_list) (pick (bare c) (Some Entries) None) (pick (leaf_ok n (form_of c) (len_of c) (value_of c)) (Some Leafy) None))
 
 -- what a cell is, inside an object or a list, with d groups open around it
-unfoldable pub class_of : ℕ → Bool → ℕ → ℕ → Class
-class_of n keyed d c = pick (eqb (form_of c) f_close) (pick (closes d c) Close Bad) (pick (placed keyed d c) (item_class n c) Bad)
+unfoldable pub class_of : ℕ → Bool → ℕ → ℕ → Option Class
+class_of n keyed d c = pick (eqb (form_of c) f_close) (pick (closes d c) (Some Close) None) (pick (placed keyed d c) (item_class n c) None)
 
 -- the groups around the one that is read: each with whether it is an object, what it has before the group inside, and that
 -- group's field number
@@ -103,32 +105,32 @@ abbrev pub closed : Bool → Items → Stack → State
 closed k acc root = done acc
 closed k acc (push k' f before st) = going k' (before ⊕ items.group k f acc items.none) st
 
-abbrev pub turn : Class → ℕ → Bool → Items → Stack → Option State
-turn Leafy c k acc st = some (going k (acc ⊕ items.leaf (field_of c) (leaf_in c) items.none) st)
-turn Object c k acc st = some (going true items.none (push k (field_of c) acc st))
-turn Entries c k acc st = some (going false items.none (push k (field_of c) acc st))
-turn Close c k acc st = some (closed k acc st)
-turn Bad c k acc st = none
+abbrev pub turn : Option Class → ℕ → Bool → Items → Stack → math.Option State
+turn (Some Leafy) c k acc st = some (going k (acc ⊕ items.leaf (field_of c) (leaf_in c) items.none) st)
+turn (Some Object) c k acc st = some (going true items.none (push k (field_of c) acc st))
+turn (Some Entries) c k acc st = some (going false items.none (push k (field_of c) acc st))
+turn (Some Close) c k acc st = some (closed k acc st)
+turn None c k acc st = none
 
 -- the first cell opens an object, with no group open and no key
-unfoldable pub step : ℕ → ℕ → State → Option State
+unfoldable pub step : ℕ → ℕ → State → math.Option State
 step n c start = pick (eqb c (open_cell 0 true 0)) (some (going true items.none root)) none
 step n c (going k acc st) = turn (class_of n k (height st + 1) c) c k acc st
 step n c (done is) = none
 
-abbrev pub and_then : Option State → (State → Option Items) → Option Items
+abbrev pub and_then : math.Option State → (State → math.Option Items) → math.Option Items
 and_then none f = none
 and_then (some s) f = f s
 
-abbrev pub finish : State → Option Items
+abbrev pub finish : State → math.Option Items
 finish start = none
 finish (going k acc st) = none
 finish (done is) = some is
 
-unfoldable pub read : ℕ → List ℕ → State → Option Items
+unfoldable pub read : ℕ → List ℕ → State → math.Option Items
 read n [] s = finish s
 read n (c ∷ cs) s = and_then (step n c s) (read n cs)
 
 -- the members of the object that the cells are, for an input of n octets; nothing where they are not well formed
-unfoldable pub items_of : ℕ → List ℕ → Option Items
+unfoldable pub items_of : ℕ → List ℕ → math.Option Items
 items_of n cs = read n cs start

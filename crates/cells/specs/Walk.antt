@@ -1,8 +1,7 @@
 -- A walk over octets by entries: what stands at each entry, up to the first that cannot be given.
-use Rattle.std.specs.Prelude.{List, [], ◌++◌, ℕ, zero, suc, ◌+◌, ◌-◌}
+use Rattle.std.specs.Prelude.{List, [], ◌++◌, ℕ, zero, suc, ◌+◌, ◌-◌, Option, Some, None}
 use Rattle.cells.specs.Items.{Items, none, ◌⊕◌, flat}
-use Rattle.cells.specs.declared.entry.Entry.{Entry}
-use Rattle.cells.specs.declared.entry.Entry.TheVariants.{Stop, Body}
+use Rattle.cells.specs.declared.entry.Body.{Body}
 
 -- what stands at a position: an entry that ends where the next one begins, with what it gives, or a stop
 pub data Step (E : Type 0) : Type 0 where
@@ -36,6 +35,10 @@ abbrev pub cells_from : ℕ → (ℕ → Step Items) → ℕ → ℕ → List �
 cells_from d f = walk_from f (λ n. []) (λ c r. flat d c ++ r)
 
 -- what a position of a part holds, by its octets: a body and where it starts, after which the next entry begins, or nothing whole
-abbrev pub step_of : {E : Type 0} → (ℕ → ℕ → E) → Entry → Step E
-step_of give Stop = stop
-step_of give (Body start len) = entry (start + len) (give start len)
+abbrev pub step_of : {E : Type 0} → (ℕ → ℕ → E) → Option Body → Step E
+step_of give None = stop
+step_of give (Some b) = entry (b.start + b.len) (give b.start b.len)
+
+-- a body of len octets from start on
+abbrev pub body : ℕ → ℕ → Option Body
+body start len = Some (record { start = start; len = len })

@@ -2,32 +2,28 @@
 ghost use Rattle.std.specs.Prelude.{◌≡◌};
 ghost use Rattle.cells.specs.Answer.{number_of, count_of};
 
-#[derive(Clone, Copy)]
-pub enum Answer {
-    Whole(usize),
+#[derive(Clone, Copy, PartialEq, Eq)]
+pub enum Refusal {
     TooLong,
     Unreadable,
     Short,
 }
 
+pub type Answer = Result<usize, Refusal>;
+
 pub fn number(a: Answer) -> u8
     ensures { result ≡ number_of a }
 {
     match a {
-        Answer::Whole(_) => 0,
-        Answer::TooLong => 3,
-        Answer::Unreadable => 15,
-        Answer::Short => 10,
+        Ok(_) => 0,
+        Err(Refusal::TooLong) => 3,
+        Err(Refusal::Unreadable) => 15,
+        Err(Refusal::Short) => 10,
     }
 }
 
 pub fn count(a: Answer) -> usize
     ensures { result ≡ count_of a }
 {
-    match a {
-        Answer::Whole(n) => n,
-        Answer::TooLong => 0,
-        Answer::Unreadable => 0,
-        Answer::Short => 0,
-    }
+    a.unwrap_or(0)
 }

@@ -7,147 +7,103 @@ use crate::cell::{
     value,
 };
 
-#[derive(Clone, Copy)]
+#[derive(Clone, Copy, PartialEq, Eq)]
 pub enum Class {
     Leafy,
     Object,
     Entries,
     Close,
-    Bad,
 }
 
+#[tactic(auto, unfolding(crate::specs::Read::field_ok))]
 fn field_ok(keyed: bool, number: u8) -> bool
     ensures { result ≡ field_ok keyed number }
 {
     if keyed {
-        if 0 < number {
-            return number <= names::key::LAST;
-        }
-        return false;
+        0 < number && number <= names::key::LAST
+    } else {
+        number == 0
     }
-    number == 0
 }
 
+#[tactic(auto, unfolding(crate::specs::Read::text_ok))]
 fn text_ok(size: u16, number: u32) -> bool
     ensures { result ≡ text_ok size number }
 {
-    if size == 0 {
-        if 0 < number {
-            return number <= names::text::LAST;
-        }
-    }
-    false
+    size == 0 && 0 < number && number <= names::text::LAST
 }
 
+#[tactic(auto, unfolding(crate::specs::Read::prefix_ok))]
 fn prefix_ok(n: usize, size: u16, v: u32) -> bool
     ensures { result ≡ prefix_ok n size v }
 {
-    let bits = v % 256;
-    if size as u32 == (bits + 7) / 8 {
-        return (v / 256) as usize + size as usize <= n;
-    }
-    false
+    size as u32 == (v % 256 + 7) / 8 && (v / 256) as usize + size as usize <= n
 }
 
+#[tactic(auto, unfolding(crate::specs::Read::below))]
 fn below(size: u16, v: u32, bound: u32) -> bool
     ensures { result ≡ isBelow bound size v }
 {
-    if size == 0 {
-        return v < bound;
-    }
-    false
+    size == 0 && v < bound
 }
 
+#[tactic(auto, unfolding(crate::specs::Read::leaf_ok))]
 fn leaf_ok(n: usize, kind: u8, size: u16, v: u32) -> bool
     ensures { result ≡ leaf_ok n kind size v }
 {
-    if kind == NUMBER {
-        return size == 0;
+    match kind {
+        NUMBER | WORD => size == 0,
+        FLAG => below(size, v, 2),
+        PART => v as usize + size as usize <= n,
+        TEXT => text_ok(size, v),
+        PREFIX => prefix_ok(n, size, v),
+        OCTET => below(size, v, 256),
+        _ => false,
     }
-    if kind == FLAG {
-        return below(size, v, 2);
-    }
-    if kind == PART {
-        return v as usize + size as usize <= n;
-    }
-    if kind == TEXT {
-        return text_ok(size, v);
-    }
-    if kind == PREFIX {
-        return prefix_ok(n, size, v);
-    }
-    if kind == OCTET {
-        return below(size, v, 256);
-    }
-    if kind == WORD {
-        return size == 0;
-    }
-    false
 }
 
+#[tactic(auto, unfolding(crate::specs::Read::bare))]
 fn bare(c: u64) -> bool
     ensures { result ≡ is_bare c }
 {
-    if len(c) == 0 {
-        return value(c) == 0;
-    }
-    false
+    len(c) == 0 && value(c) == 0
 }
 
+#[tactic(auto, unfolding(crate::specs::Read::closes))]
 fn closes(around: u8, c: u64) -> bool
     ensures { result ≡ isClosing around c }
 {
-    if depth(c) + 1 == around {
-        if field(c) == 0 {
-            return bare(c);
-        }
-    }
-    false
+    depth(c) + 1 == around && field(c) == 0 && bare(c)
 }
 
+#[tactic(auto, unfolding(crate::specs::Read::placed))]
 fn placed(keyed: bool, around: u8, c: u64) -> bool
     ensures { result ≡ is_placed keyed around c }
 {
-    if depth(c) == around {
-        return field_ok(keyed, field(c));
-    }
-    false
+    depth(c) == around && field_ok(keyed, field(c))
 }
 
-fn item_class(n: usize, c: u64) -> Class
+#[tactic(auto, unfolding(crate::specs::Read::item_class))]
+fn item_class(n: usize, c: u64) -> Option<Class>
     ensures { result ≡ item_class n c }
 {
-    let kind = form(c);
-    if kind == OBJECT {
-        if bare(c) {
-            return Class::Object;
-        }
-        return Class::Bad;
+    match form(c) {
+        OBJECT => bare(c).then_some(Class::Object),
+        LIST => bare(c).then_some(Class::Entries),
+        kind => leaf_ok(n, kind, len(c), value(c)).then_some(Class::Leafy),
     }
-    if kind == LIST {
-        if bare(c) {
-            return Class::Entries;
-        }
-        return Class::Bad;
-    }
-    if leaf_ok(n, kind, len(c), value(c)) {
-        return Class::Leafy;
-    }
-    Class::Bad
 }
 
-// Inside an object (keyed) or a list, with so many groups open around it.
-pub fn class_of(n: usize, keyed: bool, around: u8, c: u64) -> Class
+// Inside an object (keyed) or a list, with so many groups open around it; nothing where it is not well formed.
+#[tactic(auto, unfolding(crate::specs::Read::class_of))]
+pub fn class_of(n: usize, keyed: bool, around: u8, c: u64) -> Option<Class>
     ensures { result ≡ class_of n keyed around c }
 {
     if form(c) == CLOSE {
-        if closes(around, c) {
-            return Class::Close;
-        }
-        return Class::Bad;
+        closes(around, c).then_some(Class::Close)
+    } else if placed(keyed, around, c) {
+        item_class(n, c)
+    } else {
+        None
     }
-    if placed(keyed, around, c) {
-        return item_class(n, c);
-    }
-    Class::Bad
 }

@@ -5,6 +5,7 @@ ghost use Rattle.cells.specs.Cell.{cell_of};
 ghost use Rattle.cells.specs.Items.{number, flag, part, text, prefix, octet, word, none, leaf, flat, open_cell, close_cell};
 
 use crate::cell::{CLOSE, FLAG, LIST, NUMBER, OBJECT, OCTET, PART, PREFIX, TEXT, WORD, cell};
+use octets::emit::put_one;
 
 pub fn put_cell(
     out: &mut [u64],
@@ -18,15 +19,7 @@ pub fn put_cell(
     requires { (form < 16) × (depth < 16) }
     ensures { Emits out.old at (cell_of field form depth len value ∷ []) out.new result }
 {
-    let c = cell(field, form, depth, len, value);
-    if at < out.len() {
-        out[at] = c;
-        at + 1
-    } else if at < 18446744073709551615 {
-        at + 1
-    } else {
-        at
-    }
+    put_one(out, at, cell(field, form, depth, len, value))
 }
 
 pub fn put_number(out: &mut [u64], at: usize, depth: u8, field: u8, n: u32) -> usize

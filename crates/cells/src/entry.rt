@@ -1,6 +1,6 @@
-// What stands at a position of a list of entries: a body of len octets from start on, or no whole entry.
-#[derive(Clone, Copy)]
-pub enum Entry {
-    Stop,
-    Body { start: usize, len: usize },
+// A body of len octets from start on, at a position of a list of entries; the next entry begins behind it.
+#[derive(Clone, Copy, PartialEq, Eq)]
+pub struct Body {
+    pub start: usize,
+    pub len: usize,
 }

@@ -6,3 +6,5 @@ pub mod cell;
 pub mod class;
 pub mod emit;
 pub mod entry;
+pub mod record;
+pub mod walk;

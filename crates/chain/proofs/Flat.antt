@@ -13,7 +13,7 @@ use lib.Seq.{split_at, take_at, drop_at, take-append-add, drop-append-add, take-
 use borrow.Author.Tests.{ltb-true, ltb-false, eqb-false, ne_eqb, not-true}
 use Rattle.octets.specs.Emit.{put}
 use Rattle.octets.proofs.Tests.{and_left, and_right}
-use Rattle.chain.specs.Chain.{block, flat, fresh, chain_ok}
+use Rattle.chain.specs.Chain.{block, flat, fresh, chain_ok, Stretch}
 use Rattle.octets.proofs.Put.{put_is, put_nil, length-put, put-put}
 use Rattle.chain.proofs.Step.{Rises}
 
@@ -290,48 +290,33 @@ run-read b bs l room ok (suc r) i k n hk hi up fit =
 
 -- ---- the loops
 
--- a turn of the writing loop: n octets more of src
-pub write_more : (b : ℕ) (bs₀ bs bs' l : List ℕ) (v : ℕ) (src : List ℕ) (done n r : ℕ)
-    → 64 * b ≤ length bs₀ → 64 * b ≤ length bs → chain_ok b l ≡ true
-    → v ≤ 64 * length l → (v + done) / 64 + r ≤ length l → Rises l ((v + done) / 64) r → (v + done) % 64 + n ≤ 64 * r → done + n ≤ length src
-    → flat bs l ≡ put (flat bs₀ l) v (take done src)
-    → bs' ≡ put bs (64 * get_or l ((v + done) / 64) 0 + (v + done) % 64) (take n (drop done src))
-    → flat bs' l ≡ put (flat bs₀ l) v (take (done + n) src)
-write_more b bs₀ bs bs' l v src done n r room₀ room ok hv hi up hk hn inv e =
-    let i = (v + done) / 64 in
-    let k = (v + done) % 64 in
-    let ln : length (take n (drop done src)) ≡ n = length-take-le n (drop done src) (simp length-drop (omega arith)) in
-    let ld : length (take done src) ≡ done = length-take-le done src (omega arith) in
-    let lf : length (flat bs₀ l) ≡ 64 * length l = length-flat b bs₀ l room₀ ok in
-    let at : 64 * i + k ≡ v + length (take done src) = omega arith in
-    ap (λ (z : List ℕ). flat z l) e
-    ∙ run_write b l ok r bs i k (take n (drop done src)) room (omega arith) hi up (omega arith)
-    ∙ ap (λ (f : List ℕ). put f (64 * i + k) (take n (drop done src))) inv
-    ∙ ap (λ (w : ℕ). put (put (flat bs₀ l) v (take done src)) w (take n (drop done src))) at
-    ∙ put-put (flat bs₀ l) v (take done src) (take n (drop done src))
-    ∙ ap (put (flat bs₀ l) v) (sym (take-add done n src))
+-- what the r blocks from entry v / 64 on give
+pub stretches : (b : ℕ) (list : List ℕ) (v m n r : ℕ) → n ≤ length list → chain_ok b (take n list) ≡ true → 0 < r → v / 64 + r ≤ n → Rises list (v / 64) r → v % 64 + m ≤ 64 * r
+    → Stretch b (take n list) v (64 * get_or list (v / 64) 0 + v % 64) m
+stretches b list v m n r long ok hr hi up hk =
+    let l : List ℕ = take n list in
+    let i = v / 64 in
+    let k = v % 64 in
+    let ln : length l ≡ n = length-take-le n list long in
+    let up' : Rises l i r = run_take list n i r hi up in
+    let x= : get_or l i 0 ≡ get_or list i 0 = get_or-take n list i 0 (omega arith) in
+    let place : 64 * i + k ≡ v = omega arith in
+    let at : 64 * get_or l i 0 + k ≡ 64 * get_or list i 0 + k = omega arith in
+    record {
+      inside = omega (arith, run-below b l i r ok hr (omega arith) up');
+      reads = λ bs room.
+          ap (λ (w : ℕ). take m (drop w (flat bs l))) (sym place)
+          ∙ sym (run-read b bs l room ok r i k m (omega arith) (omega arith) up' hk)
+          ∙ ap (λ (w : ℕ). take m (drop w bs)) at;
+      writes = λ bs s room ls.
+          ap (λ (w : ℕ). flat (put bs w s) l) (sym at)
+          ∙ run_write b l ok r bs i k s room (omega arith) (omega arith) up' (omega arith)
+          ∙ ap (λ (w : ℕ). put (flat bs l) w s) place;
+    }
 
--- a turn of the reading loop: m octets more
-pub read_more : (b : ℕ) (bs l : List ℕ) (v : ℕ) (out₀ out out' : List ℕ) (at done m r : ℕ)
-    → 64 * b ≤ length bs → chain_ok b l ≡ true
-    → v + done + m ≤ 64 * length l → (v + done) / 64 + r ≤ length l → Rises l ((v + done) / 64) r → (v + done) % 64 + m ≤ 64 * r → at + done + m ≤ length out₀
-    → out ≡ put out₀ at (take done (drop v (flat bs l)))
-    → out' ≡ put out (at + done) (take m (drop (64 * get_or l ((v + done) / 64) 0 + (v + done) % 64) bs))
-    → out' ≡ put out₀ at (take (done + m) (drop v (flat bs l)))
-read_more b bs l v out₀ out out' at done m r room ok hv hi up hk ho inv e =
-    let i = (v + done) / 64 in
-    let k = (v + done) % 64 in
-    let f = flat bs l in
-    let lf : length f ≡ 64 * length l = length-flat b bs l room ok in
-    let ld : length (take done (drop v f)) ≡ done = length-take-le done (drop v f) (simp length-drop (omega arith)) in
-    let where' : 64 * i + k ≡ v + done = omega arith in
-    let got : take m (drop (64 * get_or l i 0 + k) bs) ≡ take m (drop done (drop v f)) =
-    run-read b bs l room ok r i k m (omega arith) hi up hk
-    ∙ ap (λ (w : ℕ). take m (drop w f)) where'
-    ∙ ap (take m) (sym (drop-drop done v f)) in
-    e
-    ∙ ap (λ (o : List ℕ). put o (at + done) (take m (drop (64 * get_or l i 0 + k) bs))) inv
-    ∙ ap (put (put out₀ at (take done (drop v f))) (at + done)) got
-    ∙ ap (λ (w : ℕ). put (put out₀ at (take done (drop v f))) (at + w) (take m (drop done (drop v f)))) (sym ld)
-    ∙ put-put out₀ at (take done (drop v f)) (take m (drop done (drop v f)))
-    ∙ ap (put out₀ at) (sym (take-add done m (drop v f)))
+-- n more of s, right behind the first of it
+pub put_more : (d s : List ℕ) (at done n : ℕ) → done ≤ length s → put (put d at (take done s)) (at + done) (take n (drop done s)) ≡ put d at (take (done + n) s)
+put_more d s at done n h =
+    ap (λ (k : ℕ). put (put d at (take done s)) (at + k) (take n (drop done s))) (sym (length-take-le done s h))
+    ∙ put-put d at (take done s) (take n (drop done s))
+    ∙ ap (put d at) (sym (take-add done n s))

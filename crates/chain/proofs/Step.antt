@@ -1,13 +1,12 @@
 -- Entries that go up one by one, and so do their homes; and tests of stretches, joined.
 use Prim.Native.Nat.{ℕ, zero, suc, ◌+◌, ◌≤◌, ◌<◌}
 use mathlib.Core.Path.{◌≡◌, refl, sym, ap, ◌∙◌}
-use mathlib.Core.Bool.{Bool, true, false, cond, ◌&&◌}
+use mathlib.Core.Bool.{Bool, true, false, ◌&&◌}
 use mathlib.Core.List.{List}
 use native.Mathlib.Nat.{add-zero, add-suc}
 use native.Mathlib.Omega.{arith}
-use lib.Dec.{eqb, ltb}
 use lib.ListN.{get_or}
-use borrow.Author.Tests.{eqb-true, eq-eqb, ltb-true, ltb-false, lt-ltb}
+use borrow.Author.Tests.{eq-eqb, lt-ltb}
 use Rattle.octets.specs.Tests.{all}
 use Rattle.octets.proofs.Tests.{all-at, all_of, no_true}
 use Rattle.chain.specs.Chain.{home_at}
@@ -18,42 +17,6 @@ Pair list home i x s = (get_or list (i + s) 0 ≡ x + s) × (get_or home (x + s)
 
 abbrev pub Pairs : List ℕ → List ℕ → ℕ → ℕ → ℕ → Type 0
 Pairs list home i x t = (s : ℕ) → s < t → Pair list home i x s
-
-one : (p : Bool) (u : ℕ) → u ≡ cond p 1 0 → u ≤ 1
-one true u e = omega arith
-one false u e = omega arith
-
-both : (p : Bool) (u : ℕ) → u ≡ cond p 1 0 → u ≡ 1 → p ≡ true
-both true u e h = refl
-both false u e h = absurd (omega arith)
-
-module _ (list home : List ℕ) (i x n t u v : ℕ) (few : n ≤ t + t) (so_far : n ≡ t + t → Pairs list home i x t)
-    (eu : u ≡ cond (eqb (get_or list (i + t) 0) (x + t)) 1 0) (ev : v ≡ cond (eqb (get_or home (x + t) 0) (i + t)) 1 0) where
-  low-u : u ≤ 1
-  low-u = one (eqb (get_or list (i + t) 0) (x + t)) u eu
-
-  low-v : v ≤ 1
-  low-v = one (eqb (get_or home (x + t) 0) (i + t)) v ev
-
-  -- a turn of the counting loop
-  pub tick-few : n + (u + v) ≤ (t + 1) + (t + 1)
-  tick-few = omega (arith, low-u, low-v, few)
-
-  pub tick : n + (u + v) ≡ (t + 1) + (t + 1) → Pairs list home i x (t + 1)
-  tick h s q = go (ltb s t) refl
-    where
-      here : Pair list home i x t
-      here = (
-        eqb-true (get_or list (i + t) 0) (x + t) (both (eqb (get_or list (i + t) 0) (x + t)) u eu (omega (arith, low-u, low-v, few))),
-        eqb-true (get_or home (x + t) 0) (i + t) (both (eqb (get_or home (x + t) 0) (i + t)) v ev (omega (arith, low-u, low-v, few))),
-      )
-
-      go : (b : Bool) → ltb s t ≡ b → Pair list home i x s
-      go true e = so_far (omega (arith, low-u, low-v, few)) s (ltb-true s t e)
-      go false e = let k : s ≡ t = omega (arith, q, ltb-false s t e) in subst_pair s k
-        where
-          subst_pair : (r : ℕ) → r ≡ t → Pair list home i x r
-          subst_pair r k = rw k here
 
 -- entries in step are at home
 pub in_step-homed : (list home : List ℕ) (b i x m : ℕ) → x + m ≤ b → Pairs list home i x m → all (λ t. home_at home list b (i + t)) m ≡ true
@@ -93,13 +56,3 @@ all-cut p k m h e = go (all p m) refl
 -- the r entries from i on are blocks that follow each other
 abbrev pub Rises : List ℕ → ℕ → ℕ → Type 0
 Rises list i r = (t : ℕ) → t < r → get_or list (i + t) 0 ≡ get_or list i 0 + t
-
-pub rises_one : (list : List ℕ) (i : ℕ) → Rises list i 1
-rises_one list i t q = let e : t ≡ 0 = omega (arith, q) in rw (e, add-zero i, add-zero (get_or list i 0))
-
-pub rises_more : (list : List ℕ) (i r : ℕ) → Rises list i r → get_or list (i + r) 0 ≡ get_or list i 0 + r → Rises list i (r + 1)
-rises_more list i r so_far next t q = go (ltb t r) refl
-  where
-    go : (b : Bool) → ltb t r ≡ b → get_or list (i + t) 0 ≡ get_or list i 0 + t
-    go true e = so_far t (ltb-true t r e)
-    go false e = let k : t ≡ r = omega (arith, q, ltb-false t r e) in rw k next

@@ -1,5 +1,6 @@
 -- A list of block numbers, and the octets that it spells.
 use Rattle.std.specs.Prelude.{ℕ, ◌+◌, ◌*◌, ◌-◌, ◌≤◌, min, ◌≡◌, Bool, true, not, ◌&&◌, List, [], ◌∷◌, ◌++◌, ltb, eqb, length, get_or, take, drop}
+use Rattle.octets.specs.Emit.{put}
 use Rattle.octets.specs.Tests.{all}
 
 -- x stands nowhere in the list
@@ -36,6 +37,13 @@ homed home list b n = all (home_at home list b) n
 -- x is one of the first n entries, by its home
 abbrev pub in_use_at : List ℕ → List ℕ → ℕ → ℕ → Bool
 in_use_at home list n x = ltb (get_or home x 0) n && eqb (get_or list (get_or home x 0) 0) x
+
+-- the m octets from place v on of those that the list spells are the octets of its blocks from index at on: to read, and to
+-- write over
+pub record Stretch (b : ℕ) (l : List ℕ) (v at m : ℕ) : Type 0 where
+  pub inside : at + m ≤ 64 * b
+  pub reads : (bs : List ℕ) → 64 * b ≤ length bs → take m (drop v (flat bs l)) ≡ take m (drop at bs)
+  pub writes : (bs s : List ℕ) → 64 * b ≤ length bs → length s ≡ m → flat (put bs at s) l ≡ put (flat bs l) v s
 
 -- the k entries from entry a on have become n: the first of them stay, and the others behind them too
 pub record Resized (list list' : List ℕ) (m a k n : ℕ) : Type 0 where

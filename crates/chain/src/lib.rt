@@ -1,31 +1,15 @@
 // A list of block numbers in which none stands twice, with its inverse, and the octets that it spells.
 #![tactic(auto)]
 
-ghost use Rattle.std.specs.Prelude.{◌≡◌, true, cond, ◌++◌, ℕ, ◌+◌, ◌*◌, ◌-◌, ◌≤◌, ◌<◌, length, get_or, set, take, drop, replicate, eqb};
+ghost use Rattle.std.specs.Prelude.{◌≡◌, true, ◌++◌, ℕ, ◌+◌, ◌*◌, ◌-◌, ◌≤◌, ◌<◌, length, get_or, take, drop};
 ghost use Rattle.octets.specs.Emit.{put};
 ghost use Rattle.octets.specs.Tests.{all};
-ghost use Rattle.chain.specs.Chain.{chain_ok, home_at, homed, in_use_at, swapped, flat, Resized, Spliced};
+ghost use Rattle.chain.specs.Chain.{chain_ok, home_at, homed, in_use_at, flat, Stretch, Resized, Spliced};
 
+use crate::source::Source;
 use octets::emit::copy;
 
-// dst with n entries from index at replaced by src's from index from on.
-fn copy16(dst: &mut [u16], at: usize, src: &[u16], from: usize, n: usize)
-    requires { (at + n ≤ length dst.old) × (from + n ≤ length src.now) }
-    ensures { dst.new ≡ put dst.old at (take n (drop from src.now)) }
-{
-    let mut j: usize = 0;
-    while j < n {
-        dst[at + j] = src[from + j];
-        j += 1;
-    }
-}
-
-// 1 where two numbers are the same, or 0.
-fn same(x: u16, y: u16) -> u16
-    ensures { result ≡ cond (eqb x y) 1 0 }
-{
-    if x == y { 1 } else { 0 }
-}
+pub mod source;
 
 // Whether the m entries from i on go up one by one from x on, and so do their homes. It counts, and leaves no loop early, so
 // that the compiler compares many at once.
@@ -36,10 +20,8 @@ fn in_step(list: &[u16], home: &[u16], i: usize, x: usize, m: usize) -> bool
     let a = x as u16;
     let h = i as u16;
     let mut n: u16 = 0;
-    let mut t: usize = 0;
-    while t < m {
-        n += same(list[i + t], a + t as u16) + same(home[x + t], h + t as u16);
-        t += 1;
+    for t in 0..m {
+        n += u16::from(list[i + t] == a + t as u16) + u16::from(home[x + t] == h + t as u16);
     }
     n as usize == 2 * m
 }
@@ -49,16 +31,11 @@ fn each_ok(list: &[u16], home: &[u16], b: usize, i: usize, m: usize) -> bool
     requires { (i + m ≤ length list.now) × (b ≤ length home.now) }
     ensures { result ≡ all (λ t. home_at home.now list.now b (i + t)) m }
 {
-    let mut t: usize = 0;
-    while t < m {
+    for t in 0..m {
         let x = list[i + t] as usize;
-        if b <= x {
+        if b <= x || home[x] as usize != i + t {
             return false;
         }
-        if home[x] as usize != i + t {
-            return false;
-        }
-        t += 1;
     }
     true
 }
@@ -69,12 +46,8 @@ fn stretch_ok(list: &[u16], home: &[u16], b: usize, i: usize, m: usize) -> bool
     ensures { result ≡ all (λ t. home_at home.now list.now b (i + t)) m }
 {
     let x = list[i] as usize;
-    if x + m <= b {
-        if list[i + m - 1] as usize == x + m - 1 {
-            if in_step(list, home, i, x, m) {
-                return true;
-            }
-        }
+    if x + m <= b && list[i + m - 1] as usize == x + m - 1 && in_step(list, home, i, x, m) {
+        return true;
     }
     each_ok(list, home, b, i, m)
 }
@@ -87,10 +60,7 @@ fn rest_ok(list: &[u16], home: &[u16], b: usize, i: usize, m: usize) -> bool
     if m < 32 {
         return each_ok(list, home, b, i, m);
     }
-    if !stretch_ok(list, home, b, i, 32) {
-        return false;
-    }
-    each_ok(list, home, b, i + 32, m - 32)
+    stretch_ok(list, home, b, i, 32) && each_ok(list, home, b, i + 32, m - 32)
 }
 
 // Whether the first n entries are blocks below b, each at its home.
@@ -101,14 +71,12 @@ pub fn homed_ok(list: &[u16], home: &[u16], b: usize, n: usize) -> bool
     if n < 32 {
         return each_ok(list, home, b, 0, n);
     }
-    let mut i: usize = 0;
-    while i + 64 <= n {
-        if !stretch_ok(list, home, b, i, 64) {
+    for k in 0..n / 64 {
+        if !stretch_ok(list, home, b, 64 * k, 64) {
             return false;
         }
-        i += 64;
     }
-    rest_ok(list, home, b, i, n - i)
+    rest_ok(list, home, b, n - n % 64, n % 64)
 }
 
 // The home of each entry from p on, up to n, is set.
@@ -116,11 +84,8 @@ fn rehome(list: &[u16], home: &mut [u16], b: usize, p: usize, n: usize)
     requires { (p ≤ n) × (n ≤ length list.now) × (n ≤ 1024) × (b ≤ length home.old) × (chain_ok b (take n list.now) ≡ true) × (homed home.old list.now b p ≡ true) }
     ensures { homed home.new list.now b n ≡ true }
 {
-    let mut i = p;
-    while i < n {
-        let x = list[i] as usize;
-        home[x] = i as u16;
-        i += 1;
+    for i in p..n {
+        home[list[i] as usize] = i as u16;
     }
 }
 
@@ -130,7 +95,7 @@ fn in_use(list: &[u16], home: &[u16], n: usize, x: usize) -> bool
     ensures { result ≡ in_use_at home.now list.now n x }
 {
     let h = home[x] as usize;
-    if h < n { list[h] as usize == x } else { false }
+    h < n && list[h] as usize == x
 }
 
 // A block that is none of the first n is put behind them.
@@ -139,20 +104,16 @@ fn one_more(list: &mut [u16], home: &mut [u16], b: usize, n: usize)
     ensures { (take n list.new ≡ take n list.old) × (homed home.new list.new b (n + 1) ≡ true) }
 {
     let c = list[n] as usize;
-    if c < b {
-        if !in_use(list, home, n, c) {
-            home[c] = n as u16;
-            return;
-        }
+    if c < b && !in_use(list, home, n, c) {
+        home[c] = n as u16;
+        return;
     }
-    let mut x: usize = 0;
-    while x < b {
+    for x in 0..b {
         if !in_use(list, home, n, x) {
             list[n] = x as u16;
             home[x] = n as u16;
             return;
         }
-        x += 1;
     }
 }
 
@@ -161,42 +122,8 @@ fn more(list: &mut [u16], home: &mut [u16], b: usize, n: usize, m: usize)
     requires { (n + m ≤ b) × (b ≤ 1024) × (b ≤ length list.old) × (b ≤ length home.old) × (homed home.old list.old b n ≡ true) }
     ensures { (take n list.new ≡ take n list.old) × (homed home.new list.new b (n + m) ≡ true) }
 {
-    let mut i: usize = 0;
-    while i < m {
-        one_more(list, home, b, n + i);
-        i += 1;
-    }
-}
-
-// The runs from p to q and from q to e change places.
-fn swap_near(list: &mut [u16], p: usize, q: usize, e: usize)
-    requires { (p ≤ q) × (q ≤ e) × (e ≤ length list.old) × (e ≤ p + 128) }
-    ensures { list.new ≡ swapped list.old p q e }
-{
-    let mut s = [0u16; 128];
-    copy16(&mut s, 0, list, q, e - q);
-    copy16(&mut s, e - q, list, p, q - p);
-    copy16(list, p, &s, 0, e - p);
-}
-
-fn swap_far(list: &mut [u16], p: usize, q: usize, e: usize)
-    requires { (p ≤ q) × (q ≤ e) × (e ≤ length list.old) × (e ≤ p + 1024) }
-    ensures { list.new ≡ swapped list.old p q e }
-{
-    let mut s = [0u16; 1024];
-    copy16(&mut s, 0, list, q, e - q);
-    copy16(&mut s, e - q, list, p, q - p);
-    copy16(list, p, &s, 0, e - p);
-}
-
-fn swap_runs(list: &mut [u16], p: usize, q: usize, e: usize)
-    requires { (p ≤ q) × (q ≤ e) × (e ≤ length list.old) × (e ≤ p + 1024) }
-    ensures { list.new ≡ swapped list.old p q e }
-{
-    if e - p <= 128 {
-        swap_near(list, p, q, e)
-    } else {
-        swap_far(list, p, q, e)
+    for i in n..n + m {
+        one_more(list, home, b, i);
     }
 }
 
@@ -207,7 +134,7 @@ fn insert(list: &mut [u16], home: &mut [u16], b: usize, n: usize, p: usize, m: u
 {
     more(list, home, b, n, m);
     if p < n {
-        swap_runs(list, p, n, n + m);
+        list[p..n + m].rotate_left(n - p);
         rehome(list, home, b, p, n + m);
     }
 }
@@ -218,7 +145,7 @@ pub fn release(list: &mut [u16], home: &mut [u16], b: usize, n: usize, p: usize,
     ensures { (take (n - (q - p)) list.new ≡ take p list.old ++ take (n - q) (drop q list.old)) × (homed home.new list.new b (n - (q - p)) ≡ true) }
 {
     if q < n {
-        swap_runs(list, p, q, n);
+        list[p..n].rotate_left(q - p);
         rehome(list, home, b, p, n - (q - p));
     }
 }
@@ -229,32 +156,37 @@ fn run(list: &[u16], i: usize, m: usize) -> usize
     ensures { (1 ≤ result) × (result ≤ m) × ((t : ℕ) → t < result → get_or list.now (i + t) 0 ≡ get_or list.now i 0 + t) }
 {
     let x = list[i] as usize;
-    let mut t: usize = 1;
-    while t < m {
+    for t in 1..m {
         if list[i + t] as usize != x + t {
             return t;
         }
-        t += 1;
     }
-    t
+    m
+}
+
+// Where in blocks place v of the octets stands that a list spells, and how many of them from there on, up to m, stand there
+// one behind the other.
+fn stretch(list: &[u16], v: usize, m: usize) -> (usize, usize)
+    requires { (0 < m) × (v + m ≤ 64 * length list.now) × (v + m ≤ usize.MAX) }
+    ensures some { (0 < result.1) × (result.1 ≤ m) }
+    ensures stretch { (b n : ℕ) → n ≤ length list.now → chain_ok b (take n list.now) ≡ true → v + m ≤ 64 * n → Stretch b (take n list.now) v result.0 result.1 }
+{
+    let i = v / 64;
+    let k = v % 64;
+    let long = 64 * run(list, i, (k + m - 1) / 64 + 1) - k;
+    (64 * list[i] as usize + k, long.min(m))
 }
 
 // The octets of src, written at place v of the octets that the first n entries spell.
-pub fn write_at(list: &[u16], blocks: &mut [u8], b: usize, n: usize, v: usize, src: &[u8])
-    requires { (n ≤ b) × (n ≤ length list.now) × (chain_ok b (take n list.now) ≡ true) × (64 * b ≤ length blocks.old) × (v + length src.now ≤ 64 * n) }
-    ensures { flat blocks.new (take n list.now) ≡ put (flat blocks.old (take n list.now)) v src.now }
+pub fn write_at<S: Source>(list: &[u16], blocks: &mut [u8], b: usize, n: usize, v: usize, src: S)
+    requires { (n ≤ b) × (n ≤ length list.now) × (chain_ok b (take n list.now) ≡ true) × (64 * b ≤ length blocks.old) × (v + length (S.octets src) ≤ 64 * n) }
+    ensures { flat blocks.new (take n list.now) ≡ put (flat blocks.old (take n list.now)) v (S.octets src) }
 {
+    // No `for`, here and below: by stretches, which are not equally long.
     let mut done: usize = 0;
     while done < src.len() {
-        let at = v + done;
-        let i = at / 64;
-        let k = at % 64;
-        let x = list[i] as usize;
-        let mut part = 64 * run(list, i, (k + (src.len() - done) - 1) / 64 + 1) - k;
-        if src.len() - done < part {
-            part = src.len() - done;
-        }
-        copy(blocks, 64 * x + k, src, done, part);
+        let (at, part) = stretch(list, v + done, src.len() - done);
+        src.put(blocks, at, done, part);
         done += part;
     }
 }
@@ -275,15 +207,8 @@ pub fn read_at(
 {
     let mut done: usize = 0;
     while done < m {
-        let w = v + done;
-        let i = w / 64;
-        let k = w % 64;
-        let x = list[i] as usize;
-        let mut part = 64 * run(list, i, (k + (m - done) - 1) / 64 + 1) - k;
-        if m - done < part {
-            part = m - done;
-        }
-        copy(out, at + done, blocks, 64 * x + k, part);
+        let (from, part) = stretch(list, v + done, m - done);
+        copy(out, at + done, blocks, from, part);
         done += part;
     }
 }
@@ -291,7 +216,7 @@ pub fn read_at(
 // The k blocks from entry a on become n: free ones are put behind them, or the last of them are free.
 fn resize(list: &mut [u16], home: &mut [u16], b: usize, m: usize, a: usize, k: usize, n: usize)
     requires { (a + k ≤ m) × (m + n ≤ b + k) × (m ≤ b) × (b ≤ 1024) × (b ≤ length list.old) × (b ≤ length home.old) × (homed home.old list.old b m ≡ true) }
-    ensures k_after { homed home.new list.new b (m + n - k) ≡ true }
+    ensures homed { homed home.new list.new b (m + n - k) ≡ true }
     ensures resized { Resized list.old list.new m a k n }
 {
     if k == n {
@@ -305,7 +230,7 @@ fn resize(list: &mut [u16], home: &mut [u16], b: usize, m: usize, a: usize, k: u
 }
 
 // The k blocks from entry a on become n, and the octets of src are written from their octet d on.
-pub fn splice(
+pub fn splice<S: Source>(
     list: &mut [u16],
     home: &mut [u16],
     blocks: &mut [u8],
@@ -315,67 +240,13 @@ pub fn splice(
     k: usize,
     n: usize,
     d: usize,
-    src: &[u8],
+    src: S,
 )
-    requires k_bound { (a + k ≤ m) × (m + n ≤ b + k) × (m ≤ b) × (b ≤ 1024) × (b ≤ length list.old) × (b ≤ length home.old) × (homed home.old list.old b m ≡ true) }
-    requires b_in_bounds { (64 * b ≤ length blocks.old) × (d ≤ 64 * k) × (d + length src.now ≤ 64 * n) }
-    ensures k_after { homed home.new list.new b (m + n - k) ≡ true }
-    ensures spliced { Spliced (flat blocks.old (take m list.old)) (flat blocks.new (take (m + n - k) list.new)) a k n d src.now }
+    requires counts { (a + k ≤ m) × (m + n ≤ b + k) × (m ≤ b) × (b ≤ 1024) × (b ≤ length list.old) × (b ≤ length home.old) × (homed home.old list.old b m ≡ true) }
+    requires room { (64 * b ≤ length blocks.old) × (d ≤ 64 * k) × (d + length (S.octets src) ≤ 64 * n) }
+    ensures homed { homed home.new list.new b (m + n - k) ≡ true }
+    ensures spliced { Spliced (flat blocks.old (take m list.old)) (flat blocks.new (take (m + n - k) list.new)) a k n d (S.octets src) }
 {
     resize(list, home, b, m, a, k, n);
     write_at(list, blocks, b, m + n - k, 64 * a + d, src);
-}
-
-// n octets from index at on become 0.
-fn zero(dst: &mut [u8], at: usize, n: usize)
-    requires { at + n ≤ length dst.old }
-    ensures { dst.new ≡ put dst.old at (replicate n 0) }
-{
-    let mut j: usize = 0;
-    while j < n {
-        dst[at + j] = 0;
-        j += 1;
-    }
-}
-
-// m zeros, written at place v of the octets that the first n entries spell.
-fn zero_at(list: &[u16], blocks: &mut [u8], b: usize, n: usize, v: usize, m: usize)
-    requires { (n ≤ b) × (n ≤ length list.now) × (chain_ok b (take n list.now) ≡ true) × (64 * b ≤ length blocks.old) × (v + m ≤ 64 * n) }
-    ensures { flat blocks.new (take n list.now) ≡ put (flat blocks.old (take n list.now)) v (replicate m 0) }
-{
-    let mut done: usize = 0;
-    while done < m {
-        let at = v + done;
-        let i = at / 64;
-        let k = at % 64;
-        let x = list[i] as usize;
-        let mut part = 64 * run(list, i, (k + (m - done) - 1) / 64 + 1) - k;
-        if m - done < part {
-            part = m - done;
-        }
-        zero(blocks, 64 * x + k, part);
-        done += part;
-    }
-}
-
-// The k blocks from entry a on become n, and z zeros are written from their octet d on.
-pub fn splice_zeros(
-    list: &mut [u16],
-    home: &mut [u16],
-    blocks: &mut [u8],
-    b: usize,
-    m: usize,
-    a: usize,
-    k: usize,
-    n: usize,
-    d: usize,
-    z: usize,
-)
-    requires k_bound { (a + k ≤ m) × (m + n ≤ b + k) × (m ≤ b) × (b ≤ 1024) × (b ≤ length list.old) × (b ≤ length home.old) × (homed home.old list.old b m ≡ true) }
-    requires b_in_bounds { (64 * b ≤ length blocks.old) × (d ≤ 64 * k) × (d + z ≤ 64 * n) }
-    ensures k_after { homed home.new list.new b (m + n - k) ≡ true }
-    ensures spliced { Spliced (flat blocks.old (take m list.old)) (flat blocks.new (take (m + n - k) list.new)) a k n d (replicate z 0) }
-{
-    resize(list, home, b, m, a, k, n);
-    zero_at(list, blocks, b, m + n - k, 64 * a + d, z);
 }

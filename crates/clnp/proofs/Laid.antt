@@ -11,15 +11,14 @@ use lib.Seq.{take_at, drop_at}
 use Rattle.octets.specs.Text.{pick}
 use Rattle.octets.specs.Read.{be16, octets_of}
 use Rattle.octets.proofs.Stands.{two_back, next, octet_of, first_of}
+use Rattle.std.specs.Prelude.{Some, None}
 use Rattle.cells.specs.Items.{none}
 use Rattle.cotp.specs.Tpdu.{head_of}
-use Rattle.clnp.specs.Segment.{headed, sp, more, report, behind, seg_at, segment_of, address_ok, addresses_of, is_piece, tpdu_of}
+use Rattle.clnp.specs.Segment.{headed, sp, more, report, behind, seg_at, fields_at, segment_of, address_ok, addresses_of, is_piece, tpdu_of}
 use Rattle.clnp.specs.Pdu.{offset_of, segmented, options_at, option_part, cotp_member, data_member}
 use Rattle.clnp.specs.Layout.{Fields, Right, address_laid, segment_laid, behind_fixed, header_len, fixed_laid, laid}
-use Rattle.clnp.specs.declared.segment.Segment.TheVariants as segment
-use Rattle.clnp.specs.declared.segment.Addresses.TheVariants as addresses
-use Rattle.clnp.specs.declared.segment.Tpdu.TheVariants as tpdu
-use Rattle.clnp.proofs.Headers.{by_length, fields_of, no_sp, is-there, two, a_piece, whole}
+use Rattle.clnp.specs.declared.segment.Segment.{Segment}
+use Rattle.clnp.proofs.Headers.{addresses, is-full, no_sp, is-there, two, a_piece, whole}
 
 -- ---- lengths
 long : (f : Fields) → length (laid f) ≡ header_len f + length f.body
@@ -49,7 +48,7 @@ module _ (f : Fields) (r : Right f) where
   full_back : headed (laid f) ≡ true
   full_back =
       let n : length (laid f) ≡ header_len f + length f.body = long f in
-      sym (by_length (laid f) (omega arith) refl (header_len f) refl (omega arith)) ∙ le-leb (header_len f) (length (laid f)) (omega arith)
+      is-full (laid f) (omega arith) refl (omega arith) (omega arith)
 
   sp_back : sp (laid f) ≡ eqb f.sp 1
   sp_back =
@@ -117,7 +116,7 @@ module _ (f : Fields) where
 
 -- ---- addresses
 pub record AddressesRead (s : List ℕ) (f : Fields) : Type 0 where
-  pub both : addresses_of s ≡ addresses.Two 10 (length f.dst) (11 + length f.dst) (length f.src)
+  pub both : addresses_of s ≡ addresses 10 (length f.dst) (11 + length f.dst) (length f.src)
   pub dst : take (length f.dst) (drop 10 s) ≡ f.dst
   pub src : take (length f.src) (drop (11 + length f.dst) s) ≡ f.src
   pub behind-dst : behind s 9 ≡ 10 + length f.dst
@@ -143,7 +142,7 @@ module _ (f : Fields) (r : Right f) where
       let d : ℕ = length f.dst in
       let m : src_at f + 1 ≡ 11 + d = omega arith in
       record {
-        both = sym (two (laid f) dst-ok d refl (length f.src) (sym (src-len f)) src-ok) ∙ ap (λ (n : ℕ). addresses.Two 10 d n (length f.src)) m;
+        both = two (laid f) dst-ok src-ok ∙ (λ i. addresses 10 d (m i) (src-len f i));
         dst = ap (take d) (drop-dst f) ∙ take_at f.dst (from_src f) d refl;
         src = ap (λ (n : ℕ). take (length f.src) (drop n (laid f))) (sym m) ∙ ap (take (length f.src)) (drop-src-value f) ∙ take_at f.src (from_part f) (length f.src) refl;
         behind-dst = refl;
@@ -151,11 +150,14 @@ module _ (f : Fields) (r : Right f) where
       }
 
 -- ---- the segmentation part
+abbrev pub fields : ℕ → ℕ → ℕ → ℕ → ℕ → Segment
+fields id offset total more header = record { id = id; offset = offset; total = total; more = more; header = header }
+
 segment_laid_lem : (f : Fields) → f.sp ≡ 1 → segment_laid f ≡ octets_of 2 f.id ++ (octets_of 2 f.offset ++ octets_of 2 f.total)
 segment_laid_lem f h = ap (λ (b : Bool). pick b (octets_of 2 f.id ++ (octets_of 2 f.offset ++ octets_of 2 f.total)) []) (eq-eqb f.sp 1 h)
 
 module _ (f : Fields) (r : Right f) where
-  fields_back : f.sp ≡ 1 → fields_of (laid f) (part_at f) ≡ segment.Fields f.id f.offset f.total f.ms (header_len f)
+  fields_back : f.sp ≡ 1 → fields_at (laid f) (part_at f) ≡ fields f.id f.offset f.total f.ms (header_len f)
   fields_back h =
       let s : List ℕ = laid f in
       let p : ℕ = part_at f in
@@ -166,17 +168,17 @@ module _ (f : Fields) (r : Right f) where
       let a : be16 (get_or s p 0) (get_or s (p + 1) 0) ≡ f.id = ap₂ be16 (first_of s all p w) (at 1) ∙ two_back f.id [] r.numbers.1 in
       let b : be16 (get_or s (p + 2) 0) (get_or s (p + 3) 0) ≡ f.offset = ap₂ be16 (at 2) (at 3) ∙ two_back f.offset [] r.numbers.2 in
       let c : be16 (get_or s (p + 4) 0) (get_or s (p + 5) 0) ≡ f.total = ap₂ be16 (at 4) (at 5) ∙ two_back f.total [] r.numbers.3 in
-      λ i. segment.Fields (a i) (b i) (c i) ((head-back f r).more-back i) (header_len f)
+      λ i. fields (a i) (b i) (c i) ((head-back f r).more-back i) (header_len f)
 
-  pub segment_back : f.sp ≡ 1 → segment_of (laid f) ≡ segment.Fields f.id f.offset f.total f.ms (header_len f)
+  pub segment_back : f.sp ≡ 1 → segment_of (laid f) ≡ Some (fields f.id f.offset f.total f.ms (header_len f))
   segment_back h =
       let s : List ℕ = laid f in
       let n : length s ≡ part_at f + (6 + length f.options) + length f.body = omega (arith, long f, header-long f, ap length (segment_laid_lem f h)) in
-      let at : part_at f ≡ behind s (src_at f) = omega (arith, src-len f) in
-      sym (is-there s (full_back f r) (omega (arith, h)) (omega (arith, n)) (src_at f) refl (omega (arith, n)) (part_at f) at (omega (arith, n)) (sym (fields_back h)))
+      let at : seg_at s ≡ part_at f = part-at f in
+      is-there s (full_back f r) (omega (arith, h)) (omega (arith, n)) (omega (arith, n, at)) ∙ ap (λ (p : ℕ). Some (fields_at s p)) at ∙ ap Some (fields_back h)
 
-  pub segment_absent : f.sp ≡ 0 → segment_of (laid f) ≡ segment.Absent
-  segment_absent h = sym (no_sp (laid f) (full_back f r) (omega (arith, h, r.flags.1, r.flags.2, r.flags.3)))
+  pub segment_absent : f.sp ≡ 0 → segment_of (laid f) ≡ None
+  segment_absent h = no_sp (laid f) (full_back f r) (omega (arith, h, r.flags.1, r.flags.2, r.flags.3))
 
 -- ---- options and data
 pick-long : (b : Bool) (a : List ℕ) → length (pick b a []) ≡ pick b (length a) 0
@@ -228,12 +230,12 @@ module _ (f : Fields) (r : Right f) where
   dt-back : f.type ≡ 0x1C → get_or (laid f) 4 0 % 32 ≡ 0x1C
   dt-back t = (head-back f r).type ∙ t
 
-  pub tpdu_back : f.type ≡ 0x1C → Whole f → tpdu_of (laid f) ≡ tpdu.From (header_len f)
-  tpdu_back t w = sym (whole (laid f) (full_back f r) (dt-back t) (header_len f) refl (not_piece w (eqb f.sp 1) refl))
+  pub tpdu_back : f.type ≡ 0x1C → Whole f → tpdu_of (laid f) ≡ Some (header_len f)
+  tpdu_back t w = whole (laid f) (full_back f r) (dt-back t) (not_piece w (eqb f.sp 1) refl)
 
   -- none of a piece
-  pub tpdu_absent : f.type ≡ 0x1C → f.sp ≡ 1 → (eqb f.ms 1 || not (eqb f.offset 0)) ≡ true → tpdu_of (laid f) ≡ tpdu.Absent
-  tpdu_absent t h p = sym (a_piece (laid f) (full_back f r) (dt-back t) (piece_is h ∙ p))
+  pub tpdu_absent : f.type ≡ 0x1C → f.sp ≡ 1 → (eqb f.ms 1 || not (eqb f.offset 0)) ≡ true → tpdu_of (laid f) ≡ None
+  tpdu_absent t h p = a_piece (laid f) (full_back f r) (dt-back t) (piece_is h ∙ p)
 
   -- the record has no TPDU where the more bit is set, also without SP, where the TPDU alone is still given
   pub more-segmented : f.ms ≡ 1 → segmented (laid f) ≡ true
@@ -244,5 +246,5 @@ module _ (f : Fields) (r : Right f) where
       let n : ℕ = get_or (laid f) 1 0 in
       ap (λ (b : Bool). pick b none (cotp_member n (drop n (laid f)) (head_of (drop n (laid f))))) (more-segmented m)
 
-  pub unpermitted-more : f.type ≡ 0x1C → f.sp ≡ 0 → f.ms ≡ 1 → (tpdu_of (laid f) ≡ tpdu.From (header_len f)) × (data_member (laid f) ≡ none)
+  pub unpermitted-more : f.type ≡ 0x1C → f.sp ≡ 0 → f.ms ≡ 1 → (tpdu_of (laid f) ≡ Some (header_len f)) × (data_member (laid f) ≡ none)
   unpermitted-more t h m = (tpdu_back t (unpermitted h), more-none m)

@@ -1,7 +1,6 @@
 pub mod Headers
 pub mod Tags
 pub mod Labels
-pub mod Options
 pub mod Records
 pub mod Thin
 pub mod Cells

@@ -7,8 +7,7 @@ use borrow.Author.Tests.{le-leb}
 use lib.ListN.{length, get_or, length-append}
 use lib.Seq.{get_or_at, get_or-append-add}
 use Rattle.cells.specs.Items.{Items, none, ◌⊕◌}
-use Rattle.cells.specs.Walk.{walk_from}
-use Rattle.cells.specs.declared.entry.Entry.TheVariants.{Body}
+use Rattle.cells.specs.Walk.{body, walk_from}
 use Rattle.cells.proofs.Walks.{turn, over}
 use Rattle.fields.specs.Tlv.{tlv_at}
 use Rattle.clnp.specs.Options.{option, option_step, option_items, option_left}
@@ -18,7 +17,7 @@ abbrev one : Option → List ℕ
 one o = o.code ∷ length o.value ∷ o.value
 
 -- an option is found where it is laid out
-option-at : (o : Option) (pre rest : List ℕ) (i : ℕ) → length pre ≡ i → tlv_at (pre ++ (one o ++ rest)) i ≡ Body (i + 2) (length o.value)
+option-at : (o : Option) (pre rest : List ℕ) (i : ℕ) → length pre ≡ i → tlv_at (pre ++ (one o ++ rest)) i ≡ body (i + 2) (length o.value)
 unfolding tlv_at
 option-at o pre rest i q =
     let s : List ℕ = pre ++ (one o ++ rest) in
@@ -35,7 +34,7 @@ module _ (base : ℕ) (s : List ℕ) where
       → walk_from (option_step base s) ends more (length s) i ≡ more (found i o) (walk_from (option_step base s) ends more (length s) (i + 2 + length o.value))
   option-turn ends more o pre rest i e q =
       let n : length s ≡ i + 2 + (length o.value + length rest) = ap length e ∙ simp (length-append, q) (omega arith) in
-      let c : tlv_at s i ≡ Body (i + 2) (length o.value) = rw e (option-at o pre rest i q) in
+      let c : tlv_at s i ≡ body (i + 2) (length o.value) = rw e (option-at o pre rest i q) in
       let d : get_or s i 0 ≡ o.code = rw e (get_or_at pre o.code (length o.value ∷ (o.value ++ rest)) 0 i q) in
       turn (option_step base s) ends more (length s) i (i + 2 + length o.value) (found i o) (omega arith) (omega arith) (simp (c, d))
 

@@ -15,8 +15,8 @@ use Rattle.codes.specs.Codes.{Row, text_in, traffic_types, atsc_classes, subnets
 use Rattle.cells.specs.Items.{Items, none, leaf, group, number, flag, octet, part, text, record_of, in_list, ◌⊕◌, flat}
 use Rattle.cells.specs.Answer.{number_of, answer_to}
 use Rattle.cells.specs.Walk.{step_of}
-use Rattle.cells.specs.declared.entry.Entry.{Entry}
-use Rattle.cells.specs.declared.entry.Entry.TheVariants.{Stop, Body}
+use Rattle.std.specs.Prelude.{Option, Some, None}
+use Rattle.cells.specs.declared.entry.Body.{Body}
 use Rattle.cells.proofs.Rows.{group-size, in_list_thin}
 use Rattle.cells.proofs.Walks.{Thin, thin, fuse, flat_walk}
 use Rattle.cells.proofs.Answers.{enough}
@@ -28,11 +28,10 @@ use Rattle.cotp.specs.Tpdu as cotp
 use Rattle.cotp.specs.declared.tpdu.Head.{Head}
 use Rattle.cotp.proofs.Thin as cotp_thin
 use Rattle.clnp.specs.Segment.{headed, sp, more, report, addresses_of}
-use Rattle.clnp.specs.Label.{bit_name, bit_names, traffic_name, category_name, tag_members, tag, tag_at, tag_step, tag_items, info_part, label_members}
-use Rattle.clnp.specs.Options.{option_value, option, option_step, option_items}
+use Rattle.clnp.specs.Label.{bit_name, bit_names, traffic_name, category_name, security_members, subnet_members, class_members, traffic_members, tag_members, tag, tag_at, tag_step, tag_items, info_part, label_members}
+use Rattle.clnp.specs.Options.{secured, option_value, option, option_step, option_items}
 use Rattle.clnp.specs.Pdu.{has_segment, segmented, segment_members, flag_members, options_at, option_part, cotp_member, data_member, address_members, members_of, has_addresses, clnp_cells}
 use Rattle.clnp.specs.declared.segment.Addresses.{Addresses}
-use Rattle.clnp.specs.declared.segment.Addresses.TheVariants as addresses
 use Rattle.clnp.proofs.Headers.{full}
 use Rattle.clnp.proofs.Tags.{Whole, tag-whole, low_of, high_of, bits_are}
 use Rattle.clnp.proofs.Records.{head_of, options_of, rest_of, members_are}
@@ -64,15 +63,14 @@ module _ (d base : ℕ) (s : List ℕ) (i n : ℕ) where
   abbrev Few : Items → Type 0
   Few x = size d x ≤ 4 * n + 9
 
-  security-thin : n ≡ 1 → Few (leaf k_kind (text t_security_classification) none ⊕ (leaf k_class_id (number v) none ⊕ opt_text k_class_name (text_in security_classes [] v)))
+  security-thin : n ≡ 1 → Few (security_members v)
   security-thin h =
       let a : Items = leaf k_kind (text t_security_classification) none in
       let b : Items = leaf k_class_id (number v) none in
       let c : Items = opt_text k_class_name (text_in security_classes [] v) in
       omega (arith, h, rows d a (b ⊕ c), rows d b c, one d k_kind (text t_security_classification), one d k_class_id (number v), text-thin d k_class_name (text_in security_classes [] v))
 
-  subnet-thin : n ≡ 2
-      → Few (leaf k_kind (text t_subnet_type) none ⊕ (leaf k_subnet_id (number v) none ⊕ (opt_text k_subnet_name (text_in subnets [] v) ⊕ group false k_permitted_traffic_types (bit_names traffic_types (get_or s (i + 1) 0)) none)))
+  subnet-thin : n ≡ 2 → Few (subnet_members v (get_or s (i + 1) 0))
   subnet-thin h =
       let a : Items = leaf k_kind (text t_subnet_type) none in
       let b : Items = leaf k_subnet_id (number v) none in
@@ -80,13 +78,13 @@ module _ (d base : ℕ) (s : List ℕ) (i n : ℕ) where
       let e : Items = group false k_permitted_traffic_types (bit_names traffic_types (get_or s (i + 1) 0)) none in
       omega (arith, h, rows d a (b ⊕ (c ⊕ e)), rows d b (c ⊕ e), rows d c e, one d k_kind (text t_subnet_type), one d k_subnet_id (number v), text-thin d k_subnet_name (text_in subnets [] v), list_thin d k_permitted_traffic_types traffic_types (get_or s (i + 1) 0))
 
-  classes-thin : n ≡ 1 → Few (leaf k_kind (text t_supported_atsc_classes) none ⊕ group false k_classes (bit_names atsc_classes v) none)
+  classes-thin : n ≡ 1 → Few (class_members v)
   classes-thin h =
       let a : Items = leaf k_kind (text t_supported_atsc_classes) none in
       let b : Items = group false k_classes (bit_names atsc_classes v) none in
       omega (arith, h, rows d a b, one d k_kind (text t_supported_atsc_classes), list_thin d k_classes atsc_classes v)
 
-  traffic-thin : Few (leaf k_kind (text t_traffic_type) none ⊕ (leaf k_traffic_type (text (traffic_name v)) none ⊕ (leaf k_category (text (category_name v)) none ⊕ leaf k_route_policy (number (v % 32)) none)))
+  traffic-thin : Few (traffic_members v)
   traffic-thin =
       let a : Items = leaf k_kind (text t_traffic_type) none in
       let b : Items = leaf k_traffic_type (text (traffic_name v)) none in
@@ -108,10 +106,10 @@ tag-thin d base s name i n =
     let b : Items = tag_members base s name i n in
     omega (arith, group-size d true 0 (a ⊕ b), rows (d + 1) a b, one (d + 1) k_tag_set (number name), members_thin (d + 1) base s i n name)
 
-tag-step : (d base : ℕ) (s : List ℕ) (i : ℕ) (e : Entry) → Whole s i e
+tag-step : (d base : ℕ) (s : List ℕ) (i : ℕ) (e : Option Body) → Whole s i e
     → Thin (tag_step base s) (λ c. length (flat d c)) 4 (length s) i (step_of (λ start n. tag base s (get_or s (i + 1) 0) start n) e)
-tag-step d base s i Stop w = tt
-tag-step d base s i (Body start n) w = (omega (arith, w.0), w.1, omega (arith, w.0, tag-thin d base s (get_or s (i + 1) 0) start n))
+tag-step d base s i None w = tt
+tag-step d base s i (Some b) w = (omega (arith, w.0), w.1, omega (arith, w.0, tag-thin d base s (get_or s (i + 1) 0) b.start b.len))
 
 pub tags_thin : (d base : ℕ) (s : List ℕ) → length (flat d (tag_items base s)) ≤ 4 * length s
 tags_thin d base s =
@@ -152,7 +150,7 @@ module _ (d base : ℕ) (s : List ℕ) (i n : ℕ) where
   abbrev Small : Items → Type 0
   Small x = size d x ≤ 4 * n + 1
 
-  secured-thin : 0 < n → Small (leaf k_security_format (text t_globally_unique) none ⊕ group true k_security_label (label_members (base + i + 1) (take (n - 1) (drop (i + 1) s))) none)
+  secured-thin : 0 < n → Small (secured base s i n)
   secured-thin h =
       let a : Items = leaf k_security_format (text t_globally_unique) none in
       let p : List ℕ = take (n - 1) (drop (i + 1) s) in
@@ -176,10 +174,10 @@ option-thin d base s t i n =
     let c : Items = option_value base s t i n in
     omega (arith, group-size d true 0 (a ⊕ (b ⊕ c)), rows (d + 1) a (b ⊕ c), rows (d + 1) b c, one (d + 1) k_code (octet t), text-thin (d + 1) k_name (text_in clnp_options [] t), value-thin (d + 1) base s i n t)
 
-option-step : (d base : ℕ) (s : List ℕ) (i : ℕ) (e : Entry) → tlvs.Whole s i e
+option-step : (d base : ℕ) (s : List ℕ) (i : ℕ) (e : Option Body) → tlvs.Whole s i e
     → Thin (option_step base s) (λ c. length (flat d c)) 4 (length s) i (step_of (λ start n. option base s (get_or s i 0) start n) e)
-option-step d base s i Stop w = tt
-option-step d base s i (Body start n) w = (omega (arith, w.0), w.2, omega (arith, w.0, option-thin d base s (get_or s i 0) start n))
+option-step d base s i None w = tt
+option-step d base s i (Some b) w = (omega (arith, w.0), w.2, omega (arith, w.0, option-thin d base s (get_or s i 0) b.start b.len))
 
 pub options-thin : (d base : ℕ) (s : List ℕ) → length (flat d (option_items base s)) ≤ 4 * length s
 options-thin d base s =
@@ -189,10 +187,10 @@ options-thin d base s =
     (thin (option_step base s) (λ c. length (flat d c)) 4 (length s) (λ i h. option-step d base s i (tlv_at s i) (tlvs.tlv_whole s i)))
 
 -- ---- the record
-address-thin : (a : Addresses) → size 1 (address_members a) ≤ 2
-address-thin addresses.Absent = omega (arith, empty 1)
-address-thin (addresses.Two dst dstlen src srclen) =
-    omega (arith, rows 1 (leaf k_dst_nsap (part dst dstlen) none) (leaf k_src_nsap (part src srclen) none), one 1 k_dst_nsap (part dst dstlen), one 1 k_src_nsap (part src srclen))
+address-thin : (a : Option Addresses) → size 1 (address_members a) ≤ 2
+address-thin None = omega (arith, empty 1)
+address-thin (Some a) =
+    omega (arith, rows 1 (leaf k_dst_nsap (part a.dst a.dstlen) none) (leaf k_src_nsap (part a.src a.srclen) none), one 1 k_dst_nsap (part a.dst a.dstlen), one 1 k_src_nsap (part a.src a.srclen))
 
 segment_of_lem : (a b c : ℕ) (t : Bool) → size 1 (leaf k_pdu_id (number a) none ⊕ (leaf k_segment_offset (number b) none ⊕ (leaf k_total_len (number c) none ⊕ opt_yes k_segmented t))) ≤ 4
 segment_of_lem a b c t =
@@ -213,10 +211,9 @@ module _ (s : List ℕ) where
       pick_elim (λ (x : Items). size 1 x ≤ 6) (sp s)
       (λ h. omega (arith, rows 1 a (b ⊕ segment_members s), rows 1 b (segment_members s), one 1 k_error_report (flag (report s)), one 1 k_more_segments (flag (more s)), segment_thin)) (λ h. omega (arith, empty 1))
 
-  tpdu_thin : (base : ℕ) (t : List ℕ) (h : Head) → size 1 (cotp_member base t h) ≤ 3 * length t + 12
-  tpdu_thin base t h =
-      pick_elim (λ (x : Items). size 1 x ≤ 3 * length t + 12) (eqb h.name 0) (λ e. omega (arith, empty 1))
-      (λ e. omega (arith, group-size 1 true k_cotp (cotp.members_of base t h), cotp_thin.members_thin 2 base t h))
+  tpdu_thin : (base : ℕ) (t : List ℕ) (h : Option Head) → size 1 (cotp_member base t h) ≤ 3 * length t + 12
+  tpdu_thin base t None = omega (arith, empty 1)
+  tpdu_thin base t (Some h) = omega (arith, group-size 1 true k_cotp (cotp.members_of base t h), cotp_thin.members_thin 2 base t h)
 
   data_thin : size 1 (data_member s) ≤ 3 * length (drop (get_or s 1 0) s) + 12
   data_thin =

@@ -19,8 +19,8 @@ use Rattle.cells.specs.Items.{Items, none, group, ◌⊕◌}
 use Rattle.cells.specs.Read.{items_of}
 use Rattle.cells.specs.Good.{Key, GoodRow, Good}
 use Rattle.cells.specs.Walk.{step_of}
-use Rattle.cells.specs.declared.entry.Entry.{Entry}
-use Rattle.cells.specs.declared.entry.Entry.TheVariants.{Stop, Body}
+use Rattle.std.specs.Prelude.{Option, Some, None}
+use Rattle.cells.specs.declared.entry.Body.{Body}
 use Rattle.cells.proofs.Rows.{good-⊕, good_in_list}
 use Rattle.cells.proofs.Walks.{Each, all}
 use Rattle.cells.proofs.WellFormed.{reads-back}
@@ -29,13 +29,13 @@ use Rattle.fields.specs.Member.{opt_text}
 use Rattle.fields.proofs.Tlvs as tlvs
 use Rattle.fields.proofs.Goods.{Octets, text-good, yes_good, take-small, drop-small}
 use Rattle.cotp.specs.Tpdu as cotp
+use Rattle.cotp.specs.declared.tpdu.Head.{Head}
 use Rattle.cotp.proofs.WellFormed as cotp-good
 use Rattle.clnp.specs.Segment.{headed, sp, seg_at, addresses_of}
 use Rattle.clnp.specs.Label.{bit_name, bit_names, traffic_name, category_name, tag_members, tag, tag_at, tag_step, tag_items, info_part, label_members}
 use Rattle.clnp.specs.Options.{option_value, option, option_step, option_items}
-use Rattle.clnp.specs.Pdu.{type_of, has_segment, offset_of, segmented, segment_members, flag_members, options_at, option_part, data_member, address_members, members_of, has_addresses, clnp_cells}
+use Rattle.clnp.specs.Pdu.{type_of, has_segment, offset_of, segmented, segment_members, flag_members, options_at, option_part, cotp_member, data_member, address_members, members_of, has_addresses, clnp_cells}
 use Rattle.clnp.specs.declared.segment.Addresses.{Addresses}
-use Rattle.clnp.specs.declared.segment.Addresses.TheVariants as addresses
 use Rattle.clnp.proofs.Headers.{full}
 use Rattle.clnp.proofs.Tags.{Whole, tag-whole, low_of, high_of, bits_are}
 use Rattle.clnp.proofs.Records.{Inside, inside, no_options, head_of, options_of, rest_of, members_are}
@@ -114,12 +114,12 @@ module _ (n : ℕ) where
     abbrev good : Items → Type 0
     good c = GoodRow n false 5 c
 
-    each : base + length s ≤ n → (i : ℕ) (e : Entry) → Whole s i e
+    each : base + length s ≤ n → (i : ℕ) (e : Option Body) → Whole s i e
         → Each (tag_step base s) (λ k. none) ◌⊕◌ (length s) good good (λ k. tt) (λ c r q g. good-⊕ n false 5 c r q g) (step_of (λ start len. tag base s (get_or s (i + 1) 0) start len) e)
-    each h i Stop w = tt
-    each h i (Body start len) w =
+    each h i None w = tt
+    each h i (Some b) w =
         let low : get_or s (i + 1) 0 < 4294967296 = omega (arith, small (i + 1)) in
-        (omega arith, refl, (omega arith, (omega arith, omega arith), low, members_good (get_or s (i + 1) 0) start len (omega (arith, w.1, h))), tt)
+        (omega arith, refl, (omega arith, (omega arith, omega arith), low, members_good (get_or s (i + 1) 0) b.start b.len (omega (arith, w.1, h))), tt)
 
     pub tags_good : base + length s ≤ n → GoodRow n false 5 (tag_items base s)
     tags_good h = all (tag_step base s) (λ k. none) ◌⊕◌ (length s) good good (λ k. tt) (λ c r q g. good-⊕ n false 5 c r q g) (λ i l. each h i (tag_at s i) (tag-whole s i))
@@ -160,10 +160,10 @@ module _ (n : ℕ) where
     abbrev fine : Items → Type 0
     fine c = GoodRow n false 2 c
 
-    each-option : (i : ℕ) (e : Entry) → tlvs.Whole s i e
+    each-option : (i : ℕ) (e : Option Body) → tlvs.Whole s i e
         → Each (option_step base s) (λ k. none) ◌⊕◌ (length s) fine fine (λ k. tt) (λ c r q g. good-⊕ n false 2 c r q g) (step_of (λ start len. option base s (get_or s i 0) start len) e)
-    each-option i Stop w = tt
-    each-option i (Body start len) w =
+    each-option i None w = tt
+    each-option i (Some b) w =
         let t = get_or s i 0 in
         let name : Items = opt_text k_name (text_in clnp_options [] t) in (
           omega arith,
@@ -172,7 +172,7 @@ module _ (n : ℕ) where
             omega arith,
             (omega arith, omega arith),
             small i,
-            good-⊕ n true 3 name (option_value base s t start len) (text-good n 3 k_name (text_in clnp_options [] t) (omega arith) (omega arith, omega arith) (text-low clnp_options [] t)) (value-good t start len w.2),
+            good-⊕ n true 3 name (option_value base s t b.start b.len) (text-good n 3 k_name (text_in clnp_options [] t) (omega arith) (omega arith, omega arith) (text-low clnp_options [] t)) (value-good t b.start b.len w.2),
           ),
           tt,
         )
@@ -181,9 +181,9 @@ module _ (n : ℕ) where
     options-good = all (option_step base s) (λ k. none) ◌⊕◌ (length s) fine fine (λ k. tt) (λ c r q g. good-⊕ n false 2 c r q g) (λ i l. each-option i (tlv_at s i) (tlvs.tlv_whole s i))
 
 -- ---- the record
-address-good : (s : List ℕ) (a : Addresses) → Inside s a → GoodRow (length s) true 1 (address_members a)
-address-good s addresses.Absent w = tt
-address-good s (addresses.Two dst dstlen src srclen) w = (omega arith, (omega arith, omega arith), w.0, (omega arith, (omega arith, omega arith), w.1, tt))
+address-good : (s : List ℕ) (a : Option Addresses) → Inside s a → GoodRow (length s) true 1 (address_members a)
+address-good s None w = tt
+address-good s (Some a) w = (omega arith, (omega arith, omega arith), w.0, (omega arith, (omega arith, omega arith), w.1, tt))
 
 module _ (s : List ℕ) (small : Octets s) (short : length s ≤ 65535) (readable : (headed s && has_addresses (addresses_of s)) ≡ true) where
   abbrev row : Items → Type 0
@@ -251,17 +251,19 @@ module _ (s : List ℕ) (small : Octets s) (short : length s ≤ 65535) (readabl
         let l : options_at s + length (option_part s) ≤ length s = omega (arith, w, header, length-take n d, min-le_left n (length d)) in
         good_in_list (length s) true 1 k_options (option_items (options_at s) (option_part s)) (omega arith) (omega arith, omega arith)
         (options-good (length s) (options_at s) (option_part s) (take-small n d (drop-small (options_at s) s small)) l)
-    | no w ↦ subst row (no_options s (options_at s) (get_or s 1 0) refl refl (omega (arith, lt_of_not-le w))) tt
+    | no w ↦ subst row (sym (no_options s (omega (arith, lt_of_not-le w)))) tt
   ]
+
+  tpdu_good : (base : ℕ) (t : List ℕ) → Octets t → base + length t ≤ length s → (h : Option Head) → cotp.head_of t ≡ h → row (cotp_member base t h)
+  tpdu_good base t low l None e = tt
+  tpdu_good base t low l (Some h) e =
+      (omega arith, (omega arith, omega arith), cotp-good.good_members t low (omega (arith, l, short)) h e (length s) 2 base (omega arith) l, tt)
 
   data_good : row (data_member s)
   data_good =
       let n = get_or s 1 0 in
       let t : List ℕ = drop n s in
-      let l : n + length t ≤ length s = omega (arith, header, length-drop n s) in
-      pick_elim row (segmented s) (λ e. tt)
-      (λ e. pick_elim row (eqb (cotp.head_of t).name 0) (λ e. tt)
-      (λ e. (omega arith, (omega arith, omega arith), cotp-good.good_members t (drop-small n s small) (omega (arith, l, short)) (eqb-false (cotp.head_of t).name 0 e) (length s) 2 n (omega arith) l, tt)))
+      pick_elim row (segmented s) (λ e. tt) (λ e. tpdu_good n t (drop-small n s small) (omega (arith, header, length-drop n s)) (cotp.head_of t) refl)
 
   pub good_members : Good (length s) (members_of s)
   good_members =

@@ -9,15 +9,18 @@ use Rattle.fields.specs.Tlv.{tlv_at}
 use Rattle.fields.specs.Member.{opt_text}
 use Rattle.clnp.specs.Label.{label_members}
 
+-- a label of the globally unique format, in n octets behind place i
+abbrev pub secured : ℕ → List ℕ → ℕ → ℕ → Items
+secured base s i n =
+    leaf k_security_format (text t_globally_unique) none ⊕ group true k_security_label (label_members (base + i + 1) (take (n - 1) (drop (i + 1) s))) none
+
 -- the value of an option of type t, n octets at place i of s, which stands at place base of the input
 unfoldable pub option_value : ℕ → List ℕ → ℕ → ℕ → ℕ → Items
 option_value base s t i n =
     let v = get_or s i 0 in
     pick (eqb t 0xCD && eqb n 1) (leaf k_priority (number v) none)
     (pick (eqb t 0xC1 && eqb n 1) (leaf k_reason (number v) none)
-    (pick (eqb t 0xC5 && (ltb 0 n && eqb v 0xC0))
-    (leaf k_security_format (text t_globally_unique) none ⊕ group true k_security_label (label_members (base + i + 1) (take (n - 1) (drop (i + 1) s))) none)
-    (leaf k_value_hex (part (base + i) n) none)))
+    (pick (eqb t 0xC5 && (ltb 0 n && eqb v 0xC0)) (secured base s i n) (leaf k_value_hex (part (base + i) n) none)))
 
 abbrev pub option : ℕ → List ℕ → ℕ → ℕ → ℕ → Items
 option base s t i n = group true 0 (leaf k_code (octet t) none ⊕ (opt_text k_name (text_in clnp_options [] t) ⊕ option_value base s t i n)) none

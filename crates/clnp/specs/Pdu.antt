@@ -1,5 +1,5 @@
 -- `parse_clnp`: the record of a CLNP PDU.
-use Rattle.std.specs.Prelude.{ℕ, ◌+◌, ◌-◌, ◌%◌, Bool, true, false, not, ◌&&◌, ◌||◌, List, [], leb, eqb, length, get_or, take, drop}
+use Rattle.std.specs.Prelude.{ℕ, ◌+◌, ◌-◌, ◌%◌, Bool, true, false, not, ◌&&◌, ◌||◌, List, [], Option, Some, None, leb, eqb, length, get_or, take, drop}
 use Rattle.octets.specs.Text.{pick}
 use Rattle.octets.specs.Read.{be16}
 use Rattle.names.specs.Numbers.{k_protocol, k_type, k_version, k_lifetime500ms, k_seg_len, k_dst_nsap, k_src_nsap, k_error_report, k_more_segments, k_pdu_id, k_segment_offset, k_total_len, k_segmented, k_options, k_cotp, t_clnp, t_dt, t_erq, t_erp, t_er, t_question}
@@ -10,7 +10,6 @@ use Rattle.cotp.specs.declared.tpdu.Head.{Head}
 use Rattle.clnp.specs.Segment.{headed, sp, more, report, seg_at, addresses_of}
 use Rattle.clnp.specs.Options.{option_items}
 use Rattle.clnp.specs.declared.segment.Addresses.{Addresses}
-use Rattle.clnp.specs.declared.segment.Addresses.TheVariants as addresses
 
 abbrev pub type_of : ℕ → ℕ
 type_of t = pick (eqb t 0x1C) t_dt (pick (eqb t 0x1E) t_erq (pick (eqb t 0x1F) t_erp (pick (eqb t 0x01) t_er t_question)))
@@ -44,15 +43,16 @@ abbrev pub option_part : List ℕ → List ℕ
 option_part s = take (get_or s 1 0 - options_at s) (drop (options_at s) s)
 
 -- the TPDU of a PDU that is no piece
-abbrev pub cotp_member : ℕ → List ℕ → Head → Items
-cotp_member base s h = pick (eqb h.name 0) none (group true k_cotp (cotp.members_of base s h) none)
+abbrev pub cotp_member : ℕ → List ℕ → Option Head → Items
+cotp_member base s None = none
+cotp_member base s (Some h) = group true k_cotp (cotp.members_of base s h) none
 
 abbrev pub data_member : List ℕ → Items
 data_member s = pick (segmented s) none (cotp_member (get_or s 1 0) (drop (get_or s 1 0) s) (cotp.head_of (drop (get_or s 1 0) s)))
 
-abbrev pub address_members : Addresses → Items
-address_members addresses.Absent = none
-address_members (addresses.Two dst dstlen src srclen) = leaf k_dst_nsap (part dst dstlen) none ⊕ leaf k_src_nsap (part src srclen) none
+abbrev pub address_members : Option Addresses → Items
+address_members None = none
+address_members (Some a) = leaf k_dst_nsap (part a.dst a.dstlen) none ⊕ leaf k_src_nsap (part a.src a.srclen) none
 
 unfoldable pub members_of : List ℕ → Items
 members_of s =
@@ -60,9 +60,9 @@ members_of s =
     ⊕ (leaf k_lifetime500ms (number (get_or s 3 0)) none ⊕ (leaf k_seg_len (number (be16 (get_or s 5 0) (get_or s 6 0))) none
     ⊕ (address_members (addresses_of s) ⊕ (flag_members s ⊕ (in_list k_options (option_items (options_at s) (option_part s)) ⊕ data_member s)))))))
 
-abbrev pub has_addresses : Addresses → Bool
-has_addresses addresses.Absent = false
-has_addresses (addresses.Two dst dstlen src srclen) = true
+abbrev pub has_addresses : Option Addresses → Bool
+has_addresses None = false
+has_addresses (Some a) = true
 
 -- no cells where it is unreadable
 unfoldable pub clnp_cells : List ℕ → List ℕ

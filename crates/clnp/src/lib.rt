@@ -1,14 +1,14 @@
 // CLNP PDUs as item records.
 #![tactic(auto)]
 
-ghost use Rattle.std.specs.Prelude.{◌≡◌, ◌&&◌, length};
+ghost use Rattle.std.specs.Prelude.{◌≡◌, ◌&&◌, ◌<◌, true, length};
 ghost use Rattle.cells.specs.Answer.{Parsed};
-ghost use Rattle.clnp.specs.Segment.{headed as headedOf, addresses_of};
-ghost use Rattle.clnp.specs.Pdu.{has_addresses, clnp_cells};
+ghost use Rattle.clnp.specs.Segment.{headed as is_headed, addresses_of};
+ghost use Rattle.clnp.specs.Pdu.{has_addresses, members_of, clnp_cells};
 
-use crate::record::put_record;
-use crate::segment::{Addresses, clnp_addresses, headed};
-use cells::answer::Answer;
+use crate::segment::{clnp_addresses, headed};
+use cells::answer::{Answer, Refusal};
+use cells::record::{Record, put_record};
 
 pub mod label;
 pub mod option;
@@ -16,42 +16,41 @@ pub mod record;
 pub mod segment;
 pub mod tag;
 
-fn readable(b: &[u8]) -> bool
-    ensures { result ≡ (headedOf b.now && has_addresses (addresses_of b.now)) }
-{
-    if headed(b) {
-        match clnp_addresses(b) {
-            Addresses::Absent => return false,
-            Addresses::Two {
-                dst: _,
-                dstlen: _,
-                src: _,
-                srclen: _,
-            } => return true,
-        }
-    }
-    false
+#[derive(Clone, Copy)]
+struct Pdu<'a> {
+    octets: &'a [u8],
+    ghost short: { length octets.now < 65536 },
+    ghost readable: { (is_headed octets.now && has_addresses (addresses_of octets.now)) ≡ true },
 }
 
-// Where so many cells are lent that every record fits one pass is enough; else the first pass counts, and writes nothing.
+impl Record for Pdu<'_> {
+    ghost size = { λ p. length p.octets.now };
+
+    ghost members = { λ p. members_of p.octets.now };
+
+    fn len(&self) -> usize {
+        self.octets.len()
+    }
+
+    fn put(&self, out: &mut [u64], at: usize) -> usize {
+        record::put_record(out, at, self.octets)
+    }
+}
+
+fn readable(b: &[u8]) -> bool
+    ensures { result ≡ (is_headed b.now && has_addresses (addresses_of b.now)) }
+{
+    headed(b) && clnp_addresses(b).is_some()
+}
+
 pub fn parse_clnp(b: &[u8], out: &mut [u64]) -> Answer
     ensures { Parsed (length b.now) (clnp_cells b.now) out.old result out.new }
 {
-    let n = b.len();
-    if 65535 < n {
-        return Answer::TooLong;
+    if 65535 < b.len() {
+        return Err(Refusal::TooLong);
     }
     if !readable(b) {
-        return Answer::Unreadable;
+        return Err(Refusal::Unreadable);
     }
-    if 4 * n + 64 <= out.len() {
-        let size = put_record(out, 0, b);
-        return Answer::Whole(size);
-    }
-    let size = put_record(&mut out[..0], 0, b);
-    if out.len() < size {
-        return Answer::Short;
-    }
-    put_record(out, 0, b);
-    Answer::Whole(size)
+    put_record(&Pdu { octets: b }, out)
 }

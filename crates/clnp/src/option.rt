@@ -1,126 +1,102 @@
 // The options of a CLNP header.
-ghost use Rattle.std.specs.Prelude.{◌+◌, ◌<◌, ◌≤◌, length};
+ghost use Rattle.std.specs.Prelude.{◌≡◌, ◌+◌, ◌<◌, ◌≤◌, length, get_or, refl};
 ghost use Rattle.octets.specs.Emit.{Emits};
-ghost use Rattle.names.specs.Numbers.{k_options, k_value_hex};
-ghost use Rattle.cells.specs.Items.{none, leaf, part, in_list, flat};
-ghost use Rattle.clnp.specs.Options.{option_value, option, option_items};
+ghost use Rattle.names.specs.Numbers.{k_options};
+ghost use Rattle.cells.specs.Items.{in_list, flat};
+ghost use Rattle.fields.specs.Tlv.{tlv_at};
+ghost use Rattle.clnp.specs.Options.{secured, option_value, option, option_items};
 
 use crate::label::put_label;
 use cells::emit::{
-    close_group, open_list, open_object, put_hex_part, put_number, put_octet_leaf, put_text_number,
+    close_group, open_object, put_hex_part, put_number, put_octet_leaf, put_text_number,
 };
-use cells::entry::Entry;
+use cells::entry::Body;
+use cells::walk::{Entries, put_list};
 use codes::clnp_option_name;
 use fields::member::put_text_if;
+use fields::part::Part;
 use fields::tlv::tlv_at;
 use names::key::{
     CODE, NAME, OPTIONS, PRIORITY, REASON, SECURITY_FORMAT, SECURITY_LABEL, VALUE_HEX,
 };
 use names::text::GLOBALLY_UNIQUE;
 
-// The octets of a value, by their place in the input.
-fn put_octets(out: &mut [u64], at: usize, base: usize, i: usize, n: usize) -> usize
-    requires { base + i + n < 65536 }
-    ensures { Emits out.old at (flat 3 (leaf k_value_hex (part (base + i) n) none)) out.new result }
-{
-    put_hex_part(out, at, 3, VALUE_HEX, base + i, n)
-}
-
-fn put_priority(out: &mut [u64], at: usize, base: usize, s: &[u8], i: usize, n: usize) -> usize
-    requires { (i + n ≤ length s.now) × (base + length s.now < 65536) }
-    ensures { Emits out.old at (flat 3 (option_value base s.now 0xCD i n)) out.new result }
-{
-    if n == 1 {
-        return put_number(out, at, 3, PRIORITY, s[i] as u32);
-    }
-    put_octets(out, at, base, i, n)
-}
-
-fn put_reason(out: &mut [u64], at: usize, base: usize, s: &[u8], i: usize, n: usize) -> usize
-    requires { (i + n ≤ length s.now) × (base + length s.now < 65536) }
-    ensures { Emits out.old at (flat 3 (option_value base s.now 0xC1 i n)) out.new result }
-{
-    if n == 1 {
-        return put_number(out, at, 3, REASON, s[i] as u32);
-    }
-    put_octets(out, at, base, i, n)
-}
-
 // A label of the globally unique format stands behind the first octet.
-fn put_security(out: &mut [u64], at: usize, base: usize, s: &[u8], i: usize, n: usize) -> usize
-    requires { (i + n ≤ length s.now) × (base + length s.now < 65536) }
-    ensures { Emits out.old at (flat 3 (option_value base s.now 0xC5 i n)) out.new result }
+fn put_security(out: &mut [u64], at: usize, part: Part, b: Body) -> usize
+    requires { (0 < b.len) × (b.start + b.len ≤ length part.octets.now) }
+    ensures { Emits out.old at (flat 3 (secured part.entry.base part.entry.octets.now b.start b.len)) out.new result }
 {
-    if n == 0 {
-        return put_octets(out, at, base, i, n);
-    }
-    if s[i] == 0xC0 {
-        let format = put_text_number(out, at, 3, SECURITY_FORMAT, GLOBALLY_UNIQUE);
-        let opened = open_object(out, format, 3, SECURITY_LABEL);
-        let shown = put_label(out, opened, base + i + 1, &s[i + 1..i + n]);
-        return close_group(out, shown, 3);
-    }
-    put_octets(out, at, base, i, n)
+    let format = put_text_number(out, at, 3, SECURITY_FORMAT, GLOBALLY_UNIQUE);
+    let opened = open_object(out, format, 3, SECURITY_LABEL);
+    let label = &part.octets[b.start + 1..b.start + b.len];
+    let shown = put_label(out, opened, part.base + b.start + 1, label);
+    close_group(out, shown, 3)
 }
 
-// The value of n octets at place i of a part that stands at place base of the input.
-fn put_value(out: &mut [u64], at: usize, base: usize, s: &[u8], t: u8, i: usize, n: usize) -> usize
-    requires { (i + n ≤ length s.now) × (base + length s.now < 65536) }
-    ensures { Emits out.old at (flat 3 (option_value base s.now t i n)) out.new result }
+// A value that nothing else is known of is given by its place in the input.
+#[tactic(auto, unfolding(crate::specs::Options::option_value))]
+fn put_value(out: &mut [u64], at: usize, part: Part, t: u8, b: Body) -> usize
+    requires { b.start + b.len ≤ length part.octets.now }
+    ensures { Emits out.old at (flat 3 (option_value part.entry.base part.entry.octets.now t b.start b.len)) out.new result }
 {
-    if t == 0xCD {
-        return put_priority(out, at, base, s, i, n);
+    let s = part.octets;
+    match (t, b.len) {
+        (0xCD, 1) => put_number(out, at, 3, PRIORITY, s[b.start] as u32),
+        (0xC1, 1) => put_number(out, at, 3, REASON, s[b.start] as u32),
+        (0xC5, 1..) if s[b.start] == 0xC0 => put_security(out, at, part, b),
+        _ => put_hex_part(out, at, 3, VALUE_HEX, part.base + b.start, b.len),
     }
-    if t == 0xC1 {
-        return put_reason(out, at, base, s, i, n);
-    }
-    if t == 0xC5 {
-        return put_security(out, at, base, s, i, n);
-    }
-    put_octets(out, at, base, i, n)
 }
 
-fn put_option(out: &mut [u64], at: usize, base: usize, s: &[u8], t: u8, i: usize, n: usize) -> usize
-    requires { (i + n ≤ length s.now) × (base + length s.now < 65536) }
-    ensures { Emits out.old at (flat 2 (option base s.now t i n)) out.new result }
+fn put_option(out: &mut [u64], at: usize, part: Part, t: u8, b: Body) -> usize
+    requires { b.start + b.len ≤ length part.octets.now }
+    ensures { Emits out.old at (flat 2 (option part.entry.base part.entry.octets.now t b.start b.len)) out.new result }
 {
     let opened = open_object(out, at, 2, 0);
     let coded = put_octet_leaf(out, opened, 3, CODE, t);
     let named = put_text_if(out, coded, 3, NAME, clnp_option_name(t));
-    let shown = put_value(out, named, base, s, t, i, n);
+    let shown = put_value(out, named, part, t, b);
     close_group(out, shown, 2)
 }
 
-// The options of a part that stands at place base of the input.
-pub fn options(out: &mut [u64], at: usize, base: usize, s: &[u8]) -> usize
-    requires { base + length s.now < 65536 }
-    ensures { Emits out.old at (flat 2 (option_items base s.now)) out.new result }
-{
-    let mut i: usize = 0;
-    let mut next = at;
-    while i < s.len() {
-        match tlv_at(s, i) {
-            Entry::Stop => return next,
-            Entry::Body { start, len } => {
-                next = put_option(out, next, base, s, s[i], start, len);
-                i = start + len;
-            }
-        }
-    }
-    next
+#[derive(Clone, Copy)]
+struct Options<'a> {
+    part: Part<'a>,
 }
 
-// As a member, which is left out where there is none: it opens where an entry is known.
+impl Entries for Options<'_> {
+    ghost size = { λ o. length o.part.octets.now };
+
+    ghost depth = { λ o. 1 };
+
+    ghost body = { λ o. tlv_at o.part.octets.now };
+
+    ghost items = { λ o i start n. option o.part.base o.part.octets.now (get_or o.part.octets.now i 0) start n };
+
+    ghost listed = { λ o i start n f xs. refl };
+
+    fn len(&self) -> usize {
+        self.part.octets.len()
+    }
+
+    fn level(&self) -> u8 {
+        1
+    }
+
+    fn body_at(&self, i: usize) -> Option<Body> {
+        tlv_at(self.part.octets, i)
+    }
+
+    fn put_entry(&self, out: &mut [u64], at: usize, i: usize, b: Body) -> usize {
+        put_option(out, at, self.part, self.part.octets[i], b)
+    }
+}
+
+// The options of a part that stands at place base of the input, as a member, which is left out where there is none.
 pub fn put_options(out: &mut [u64], at: usize, base: usize, s: &[u8]) -> usize
     requires { base + length s.now < 65536 }
     ensures { Emits out.old at (flat 1 (in_list k_options (option_items base s.now))) out.new result }
 {
-    match tlv_at(s, 0) {
-        Entry::Stop => at,
-        Entry::Body { start: _, len: _ } => {
-            let opened = open_list(out, at, 1, OPTIONS);
-            let shown = options(out, opened, base, s);
-            close_group(out, shown, 1)
-        }
-    }
+    let part = Part { base, octets: s };
+    put_list(&Options { part }, out, at, OPTIONS, 0)
 }

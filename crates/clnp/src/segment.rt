@@ -1,101 +1,66 @@
 // The header of a CLNP PDU, as far as a piece of a unit needs it.
-ghost use Rattle.std.specs.Prelude.{◌≡◌, ◌&&◌, ◌+◌, ◌<◌, ◌≤◌, length, get_or, drop};
-ghost use Rattle.octets.specs.Read.{be16};
-ghost use Rattle.clnp.specs.Segment.{headed as headedOf, sp, more, behind as behindOf, segment_of, address_ok, addresses_of, is_piece, tpdu_of, tpdu_answer, tpdu_place};
+ghost use Rattle.std.specs.Prelude.{◌≡◌, ◌&&◌, ◌+◌, ◌<◌, ◌≤◌, Err, IfOk, IfSome, MatchResult, length, drop};
+ghost use Rattle.cells.specs.Answer.{number_of};
+ghost use Rattle.clnp.specs.Segment.{headed as is_headed, sp, behind as behind_of, segment_of, address_ok, addresses_of, is_piece, tpdu_of, tpdu_answer, tpdu_place};
 
+use cells::answer::Refusal;
 use octets::read::{u16_of, wide};
 
 #[derive(Clone, Copy)]
-pub enum Segment {
-    Absent,
-    Fields {
-        id: u16,
-        offset: u16,
-        total: u16,
-        more: u8,
-        header: usize,
-    },
+pub struct Segment {
+    pub id: u16,
+    pub offset: u16,
+    pub total: u16,
+    pub more: u8,
+    pub header: usize,
 }
 
 #[derive(Clone, Copy)]
-pub enum Addresses {
-    Absent,
-    Two {
-        dst: usize,
-        dstlen: usize,
-        src: usize,
-        srclen: usize,
-    },
-}
-
-#[derive(Clone, Copy)]
-pub enum Tpdu {
-    Absent,
-    From(usize),
+pub struct Addresses {
+    pub dst: usize,
+    pub dstlen: usize,
+    pub src: usize,
+    pub srclen: usize,
 }
 
 // A full header, which the octets have.
 pub fn headed(b: &[u8]) -> bool
-    ensures { result ≡ headedOf b.now }
+    ensures { result ≡ is_headed b.now }
 {
-    if b.len() < 9 {
-        return false;
-    }
-    if b[0] != 0x81 {
-        return false;
-    }
-    let n = wide(b[1]);
-    if n < 9 {
-        return false;
-    }
-    n <= b.len()
+    9 <= b.len() && b[0] == 0x81 && 9 <= b[1] && wide(b[1]) <= b.len()
 }
 
 // The place behind an address whose length octet stands at p. The bound on p is against a sum that wraps.
 pub fn behind(b: &[u8], p: usize) -> usize
     requires { (p < length b.now) × (p < 65536) }
-    ensures { (result ≡ behindOf b.now p) × (result < p + 257) }
+    ensures { (result ≡ behind_of b.now p) × (result < p + 257) }
 {
-    let n = wide(b[p]);
-    p + 1 + n
+    p + 1 + wide(b[p])
 }
 
-fn fields(b: &[u8], p: usize) -> Segment
-    requires { (4 < length b.now) × (p + 6 ≤ length b.now) }
-    ensures { result ≡ Segment.Fields (be16 (get_or b.now p 0) (get_or b.now (p + 1) 0)) (be16 (get_or b.now (p + 2) 0) (get_or b.now (p + 3) 0)) (be16 (get_or b.now (p + 4) 0) (get_or b.now (p + 5) 0)) (more b.now) (get_or b.now 1 0) }
+// The segmentation part is bounded by the octets, and not by the header.
+#[tactic(auto, unfolding(crate::specs::Segment::segment_of))]
+pub fn clnp_segment(b: &[u8]) -> Option<Segment>
+    ensures { result ≡ segment_of b.now }
 {
-    let n = wide(b[1]);
-    Segment::Fields {
+    if !headed(b) || b[4] < 128 || b.len() <= 9 {
+        return None;
+    }
+    let dst = behind(b, 9);
+    if b.len() <= dst {
+        return None;
+    }
+    let p = behind(b, dst);
+    if b.len() < p + 6 {
+        return None;
+    }
+    Some(Segment {
         id: u16_of(b[p], b[p + 1]),
         offset: u16_of(b[p + 2], b[p + 3]),
         total: u16_of(b[p + 4], b[p + 5]),
         more: b[4] / 64 % 2,
-        header: n,
-    }
-}
-
-// The segmentation part is bounded by the octets, and not by the header.
-pub fn clnp_segment(b: &[u8]) -> Segment
-    ensures { result ≡ segment_of b.now }
-{
-    if !headed(b) {
-        return Segment::Absent;
-    }
-    if b[4] < 128 {
-        return Segment::Absent;
-    }
-    if b.len() <= 9 {
-        return Segment::Absent;
-    }
-    let dst = behind(b, 9);
-    if b.len() <= dst {
-        return Segment::Absent;
-    }
-    let src = behind(b, dst);
-    if b.len() < src + 6 {
-        return Segment::Absent;
-    }
-    fields(b, src)
+        header: wide(b[1]),
+    })
 }
 
 // At most 20 octets, which are there.
@@ -103,54 +68,32 @@ fn address_ok(b: &[u8], p: usize) -> bool
     requires { p < 65536 }
     ensures { result ≡ address_ok b.now p }
 {
-    if p < b.len() {
-        let n = wide(b[p]);
-        if p + 1 + n <= b.len() {
-            return n <= 20;
-        }
-        return false;
-    }
-    false
+    p < b.len() && behind(b, p) <= b.len() && b[p] <= 20
 }
 
-pub fn clnp_addresses(b: &[u8]) -> Addresses
+#[tactic(auto, unfolding(crate::specs::Segment::addresses_of))]
+pub fn clnp_addresses(b: &[u8]) -> Option<Addresses>
     ensures { result ≡ addresses_of b.now }
 {
     if !address_ok(b, 9) {
-        return Addresses::Absent;
+        return None;
     }
-    let dst = wide(b[9]);
-    let p = 9 + 1 + dst;
+    let p = behind(b, 9);
     if !address_ok(b, p) {
-        return Addresses::Absent;
+        return None;
     }
-    let src = wide(b[p]);
-    Addresses::Two {
+    Some(Addresses {
         dst: 10,
-        dstlen: dst,
+        dstlen: wide(b[9]),
         src: p + 1,
-        srclen: src,
-    }
+        srclen: wide(b[p]),
+    })
 }
 
-fn is_piece(s: Segment) -> bool
+fn is_piece(s: Option<Segment>) -> bool
     ensures { result ≡ is_piece s }
 {
-    match s {
-        Segment::Absent => false,
-        Segment::Fields {
-            id: _,
-            offset,
-            total: _,
-            more,
-            header: _,
-        } => {
-            if more == 1 {
-                return true;
-            }
-            offset != 0
-        }
-    }
+    s.is_some_and(|s| s.more == 1 || s.offset != 0)
 }
 
 // The more bit is heeded only where SP is set.
@@ -158,67 +101,30 @@ fn in_pieces(b: &[u8]) -> bool
     requires { 4 < length b.now }
     ensures { result ≡ (sp b.now && is_piece (segment_of b.now)) }
 {
-    if 128 <= b[4] {
-        return is_piece(clnp_segment(b));
-    }
-    false
+    128 <= b[4] && is_piece(clnp_segment(b))
 }
 
-fn tpdu_of(b: &[u8]) -> Tpdu
-    ensures { result ≡ tpdu_of b.now }
+#[tactic(auto, unfolding(crate::specs::Segment::tpdu_of))]
+fn tpdu_of(b: &[u8]) -> Option<usize>
+    ensures value { result ≡ tpdu_of b.now }
+    ensures within { IfSome result (λ n. n ≤ length b.now) }
 {
-    if !headed(b) {
-        return Tpdu::Absent;
+    if !headed(b) || b[4] % 32 != 0x1C || in_pieces(b) {
+        return None;
     }
-    if b[4] % 32 != 0x1C {
-        return Tpdu::Absent;
-    }
-    if in_pieces(b) {
-        return Tpdu::Absent;
-    }
-    Tpdu::From(wide(b[1]))
+    Some(wide(b[1]))
 }
 
-fn tpdu_answer(b: &[u8], t: Tpdu) -> u64
-    ensures { result ≡ tpdu_answer b.now t }
+// The data part of a whole DT PDU.
+pub fn clnp_cotp_tpdu<'a>(b: &'a [u8]) -> Result<&'a [u8], Refusal>
+    ensures answer { MatchResult result (λ t. (tpdu_answer b.now (tpdu_of b.now) ≡ 0) × (t.now ≡ drop (tpdu_place b.now (tpdu_of b.now)) b.now)) (λ r. tpdu_answer b.now (tpdu_of b.now) ≡ number_of (Err r)) }
+    ensures ref_ptr_value { IfOk result (λ t. (t.ref_ptr.0 ≡ b.entry.ref_ptr.0) × (t.ref_ptr.1 ≡ tpdu_place b.now (tpdu_of b.now) + b.entry.ref_ptr.1)) }
 {
-    match t {
-        Tpdu::Absent => {
-            if 65535 < b.len() {
-                return 3;
-            }
-            15
-        }
-        Tpdu::From(_) => {
-            if 65535 < b.len() {
-                return 3;
-            }
-            0
-        }
+    if 65535 < b.len() {
+        return Err(Refusal::TooLong);
     }
-}
-
-fn tpdu_place(b: &[u8], t: Tpdu) -> usize
-    ensures { result ≡ tpdu_place b.now t }
-{
-    match t {
-        Tpdu::Absent => b.len(),
-        Tpdu::From(p) => {
-            if 65535 < b.len() {
-                return b.len();
-            }
-            p
-        }
-    }
-}
-
-// The data part of a whole DT PDU: answer 3, 15 or 0, and the part, empty where there is none.
-pub fn clnp_cotp_tpdu<'a>(b: &'a [u8], answer: &mut u64) -> &'a [u8]
-    ensures answer_after { (answer.new ≡ tpdu_answer b.now (tpdu_of b.now)) × (result.now ≡ drop (tpdu_place b.now (tpdu_of b.now)) b.now) }
-    ensures ref_ptr_value { (result.ref_ptr.0 ≡ b.entry.ref_ptr.0) × (result.ref_ptr.1 ≡ tpdu_place b.now (tpdu_of b.now) + b.entry.ref_ptr.1) }
-{
-    let t = tpdu_of(b);
-    let from = tpdu_place(b, t);
-    *answer = tpdu_answer(b, t);
-    &b[from..]
+    let Some(from) = tpdu_of(b) else {
+        return Err(Refusal::Unreadable);
+    };
+    Ok(&b[from..])
 }

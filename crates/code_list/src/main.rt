@@ -43,98 +43,44 @@ fn pair_line(to: &mut Stdout, out: &mut [u8], code: u8, sub: u8, text: u32) -> i
     end_line(to, out, c, text)
 }
 
-fn x25_line(to: &mut Stdout, out: &mut [u8], table: usize, c: u8) -> io::Result<()> {
-    if table == 0 {
-        return line(to, out, b"x25_clear_cause", c, x25_clear_cause(c));
-    }
-    if table == 1 {
-        return line(to, out, b"x25_reset_cause", c, x25_reset_cause(c));
-    }
-    if table == 2 {
-        return line(to, out, b"x25_restart_cause", c, x25_restart_cause(c));
-    }
-    line(to, out, b"x25_diagnostic", c, x25_diagnostic(c))
-}
-
-fn routing_line(to: &mut Stdout, out: &mut [u8], table: usize, c: u8) -> io::Result<()> {
-    if table == 4 {
-        return line(to, out, b"esis_option_name", c, esis_option_name(c));
-    }
-    if table == 5 {
-        return line(to, out, b"idrp_attr_name", c, idrp_attr_name(c));
-    }
-    if table == 6 {
-        return line(to, out, b"idrp_pdu_type_name", c, idrp_pdu_type_name(c));
-    }
-    line(to, out, b"idrp_error_code_name", c, idrp_error_code_name(c))
-}
-
-fn clnp_line(to: &mut Stdout, out: &mut [u8], table: usize, c: u8) -> io::Result<()> {
-    if table == 8 {
-        return line(to, out, b"clnp_option_name", c, clnp_option_name(c));
-    }
-    if table == 9 {
-        return line(
-            to,
-            out,
-            b"atn_traffic_type_name",
-            c,
-            atn_traffic_type_name(c),
-        );
-    }
-    if table == 10 {
-        return line(to, out, b"atsc_class_name", c, atsc_class_name(c));
-    }
-    if table == 11 {
-        return line(to, out, b"atn_subnet_name", c, atn_subnet_name(c));
-    }
-    line(
-        to,
-        out,
-        b"atn_security_class_name",
-        c,
-        atn_security_class_name(c),
-    )
-}
-
-fn cotp_line(to: &mut Stdout, out: &mut [u8], table: usize, c: u8) -> io::Result<()> {
-    if table == 13 {
-        return line(to, out, b"cotp_dr_reason", c, cotp_dr_reason(c));
-    }
-    if table == 14 {
-        return line(to, out, b"cotp_er_reject_cause", c, cotp_er_reject_cause(c));
-    }
-    line(to, out, b"cotp_param_name", c, cotp_param_name(c))
-}
-
-fn table_line(to: &mut Stdout, out: &mut [u8], table: usize, c: u8) -> io::Result<()> {
-    if table < 4 {
-        return x25_line(to, out, table, c);
-    }
-    if table < 8 {
-        return routing_line(to, out, table, c);
-    }
-    if table < 13 {
-        return clnp_line(to, out, table, c);
-    }
-    cotp_line(to, out, table, c)
-}
-
-fn tables(to: &mut Stdout, out: &mut [u8]) -> io::Result<()> {
-    for table in 0..16 {
-        for c in 0..256u32 {
-            table_line(to, out, table, (c % 256) as u8)?;
-        }
+// A line for each code that a table names.
+fn table<F: Fn(u8) -> u32>(
+    to: &mut Stdout,
+    out: &mut [u8],
+    function: &[u8],
+    text: F,
+) -> io::Result<()>
+    requires { F.IsAlwaysCallable text }
+{
+    for c in 0..=255u8 {
+        line(to, out, function, c, text(c))?;
     }
     Ok(())
 }
 
+fn tables(to: &mut Stdout, out: &mut [u8]) -> io::Result<()> {
+    table(to, out, b"x25_clear_cause", x25_clear_cause)?;
+    table(to, out, b"x25_reset_cause", x25_reset_cause)?;
+    table(to, out, b"x25_restart_cause", x25_restart_cause)?;
+    table(to, out, b"x25_diagnostic", x25_diagnostic)?;
+    table(to, out, b"esis_option_name", esis_option_name)?;
+    table(to, out, b"idrp_attr_name", idrp_attr_name)?;
+    table(to, out, b"idrp_pdu_type_name", idrp_pdu_type_name)?;
+    table(to, out, b"idrp_error_code_name", idrp_error_code_name)?;
+    table(to, out, b"clnp_option_name", clnp_option_name)?;
+    table(to, out, b"atn_traffic_type_name", atn_traffic_type_name)?;
+    table(to, out, b"atsc_class_name", atsc_class_name)?;
+    table(to, out, b"atn_subnet_name", atn_subnet_name)?;
+    table(to, out, b"atn_security_class_name", atn_security_class_name)?;
+    table(to, out, b"cotp_dr_reason", cotp_dr_reason)?;
+    table(to, out, b"cotp_er_reject_cause", cotp_er_reject_cause)?;
+    table(to, out, b"cotp_param_name", cotp_param_name)
+}
+
 fn pairs(to: &mut Stdout, out: &mut [u8]) -> io::Result<()> {
-    for code in 0..256u32 {
-        for sub in 0..256u32 {
-            let x = (code % 256) as u8;
-            let y = (sub % 256) as u8;
-            pair_line(to, out, x, y, idrp_error_subcode_name(x, y))?;
+    for code in 0..=255u8 {
+        for sub in 0..=255u8 {
+            pair_line(to, out, code, sub, idrp_error_subcode_name(code, sub))?;
         }
     }
     Ok(())

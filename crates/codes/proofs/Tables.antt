@@ -1,42 +1,21 @@
--- A table of codes is right where a test that antt computes says so at each of its entries.
-use mathlib.Core.Path.{◌≡◌, refl, sym, ap, ◌∙◌}
-use mathlib.Core.Bool.{Bool, true, ◌&&◌}
+-- A code that no row has gets the name of any other.
+use mathlib.Core.Path.{◌≡◌, refl}
 use mathlib.Core.List.{List, [], ◌∷◌}
-use Prim.Native.Nat.{ℕ, ◌-◌, ◌≤◌, ◌<◌}
-use native.Mathlib.Omega.{arith}
-use lib.Dec.{eqb, ltb}
-use lib.ListN.{get_or}
-use borrow.Author.Tests.{eqb-true, ltb-true, ne_eqb}
-use Rattle.octets.specs.Tests.{all}
-use Rattle.octets.proofs.Tests.{all-at, and_left, and_right}
-use Rattle.octets.proofs.Table.{values, at}
+use Prim.Native.Nat.{ℕ}
+use borrow.Author.Tests.{ne_eqb}
 use Rattle.names.specs.Texts.{number_of}
 use Rattle.codes.specs.Codes.{Row, name_in, text_in}
-use Rattle.codes.specs.Entry.{lift}
 
--- every code is below n
-abbrev pub below : List Row → ℕ → Bool
-below [] n = true
-below (r ∷ rs) n = ltb r.code n && below rs n
+-- no row has the code c
+abbrev pub Misses : List Row → ℕ → Type 0
+Misses [] c = Unit {0}
+Misses (r ∷ rs) c = (c ≡ r.code → ⊥) × Misses rs c
 
-name-beyond : (rows : List Row) (other : List ℕ) (n c : ℕ) → below rows n ≡ true → n ≤ c → name_in rows other c ≡ other
+missing : (rows : List Row) (other : List ℕ) (c : ℕ) → Misses rows c → name_in rows other c ≡ other
 unfolding name_in
-name-beyond [] other n c h l = refl
-name-beyond (r ∷ rs) other n c h l =
-    let low : r.code < n = ltb-true r.code n (and_left (ltb r.code n) (below rs n) h) in
-    rw (ne_eqb c r.code (λ e. omega (arith, e))) (name-beyond rs other n c (and_right (ltb r.code n) (below rs n) h) l)
+missing [] other c m = refl
+missing (r ∷ rs) other c m = rw (ne_eqb c r.code m.0) (missing rs other c m.1)
 
-module _ (rows : List Row) (other : List ℕ) (o base n : ℕ) where
-  -- what the table holds for a code
-  abbrev pub entry : ℕ → ℕ
-  entry c = number_of (name_in rows [] c) - base
-
-  abbrev pub right : ℕ → Bool
-  right c = eqb (lift o base (entry c)) (text_in rows other c)
-
-  pub within : (c : ℕ) → all right n ≡ true → c < n → lift o base (get_or (values entry 0 n) c 0) ≡ text_in rows other c
-  within c h l = ap (lift o base) (at entry n c l) ∙ eqb-true (lift o base (entry c)) (text_in rows other c) (all-at right c n h l)
-
-  pub beyond : (c : ℕ) → below rows n ≡ true → n ≤ c → o ≡ number_of other → o ≡ text_in rows other c
-  unfolding text_in
-  beyond c h l e = e ∙ ap number_of (sym (name-beyond rows other n c h l))
+pub text-missing : (rows : List Row) (other : List ℕ) (c : ℕ) → Misses rows c → number_of other ≡ text_in rows other c
+unfolding text_in
+text-missing rows other c m = rw (missing rows other c m)

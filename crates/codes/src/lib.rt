@@ -1,230 +1,424 @@
-// The text number of each code that the Rust names: 0 where it names none.
-#![tactic(auto)]
+// The text number of each code that the Rust names: 0 where it names none, since a cell carries the number.
+#![tactic(auto, unfolding(crate::specs::Codes::text_in, crate::specs::Codes::name_in, crate::specs::Codes::error_subcodes, crate::specs::Codes::atsc_classes, crate::specs::Codes::clear_causes, crate::specs::Codes::clnp_options, crate::specs::Codes::cotp_params, crate::specs::Codes::diagnostics, crate::specs::Codes::disconnect_reasons, crate::specs::Codes::esis_options, crate::specs::Codes::idrp_attributes, crate::specs::Codes::idrp_errors, crate::specs::Codes::idrp_types, crate::specs::Codes::open_errors, crate::specs::Codes::refresh_errors, crate::specs::Codes::reject_causes, crate::specs::Codes::reset_causes, crate::specs::Codes::restart_causes, crate::specs::Codes::security_classes, crate::specs::Codes::subnets, crate::specs::Codes::traffic_types, crate::specs::Codes::update_errors, names::specs::Texts::number_of, names::specs::Texts::texts, names::specs::Place::place_from, names::specs::Place::same))]
 
 ghost use Rattle.std.specs.Prelude.{◌≡◌, []};
 ghost use Rattle.names.specs.Ascii.{octets};
 ghost use Rattle.codes.specs.Codes.{text_in, error_subcodes, clear_causes, reset_causes, restart_causes, diagnostics, esis_options, idrp_attributes, idrp_types, idrp_errors, clnp_options, traffic_types, atsc_classes, subnets, security_classes, disconnect_reasons, reject_causes, cotp_params, open_errors, update_errors, refresh_errors};
-ghost use Rattle.codes.specs.Entry.{lift};
-
-// An entry of a table of small numbers: 0 stands for other, and any other for that many on from base.
-fn lifted(other: u16, base: u16, t: u8) -> u32
-    ensures { result ≡ lift other base t }
-{
-    if t == 0 {
-        return other as u32;
-    }
-    base as u32 + t as u32
-}
 
 pub fn x25_clear_cause(c: u8) -> u32
     ensures { result ≡ text_in clear_causes [] c }
 {
-    if c < 58 {
-        let table =
-            b"\x01\x02\x00\x03\x00\x04\x00\x00\x00\x05\x00\x00\x00\x06\x00\x00\x00\x00\x00\x07\x00\x08\x00\x00\x00\x09\x00\x00\x00\x00\x00\x00\x00\x0a\x00\x00\x00\x00\x00\x00\x00\x0b\x00\x00\x00\x00\x00\x00\x00\x00\x00\x00\x00\x00\x00\x00\x00\x0c";
-        return lifted(0, 0, table[c as usize]);
+    match c {
+        0x00 => 1,
+        0x01 => 2,
+        0x03 => 3,
+        0x05 => 4,
+        0x09 => 5,
+        0x0D => 6,
+        0x13 => 7,
+        0x15 => 8,
+        0x19 => 9,
+        0x21 => 10,
+        0x29 => 11,
+        0x39 => 12,
+        _ => 0,
     }
-    0
 }
 
 pub fn x25_reset_cause(c: u8) -> u32
     ensures { result ≡ text_in reset_causes [] c }
 {
-    if c < 30 {
-        let table =
-            b"\x01\x0d\x00\x05\x00\x07\x00\x04\x00\x0e\x00\x00\x00\x00\x00\x0f\x00\x0a\x00\x00\x00\x00\x00\x00\x00\x00\x00\x00\x00\x10";
-        return lifted(0, 0, table[c as usize]);
+    match c {
+        0x00 => 1,
+        0x01 => 13,
+        0x03 => 5,
+        0x05 => 7,
+        0x07 => 4,
+        0x09 => 14,
+        0x0F => 15,
+        0x11 => 10,
+        0x1D => 16,
+        _ => 0,
     }
-    0
 }
 
 pub fn x25_restart_cause(c: u8) -> u32
     ensures { result ≡ text_in restart_causes [] c }
 {
-    if c < 8 {
-        let table = b"\x00\x07\x00\x04\x00\x00\x00\x0f";
-        return lifted(0, 0, table[c as usize]);
+    match c {
+        0x01 => 7,
+        0x03 => 4,
+        0x07 => 15,
+        _ => 0,
     }
-    0
 }
 
 pub fn x25_diagnostic(c: u8) -> u32
     ensures { result ≡ text_in diagnostics [] c }
 {
-    if c < 251 {
-        let table =
-            b"\x11\x12\x13\x00\x00\x00\x00\x00\x00\x00\x00\x00\x00\x00\x00\x00\x14\x15\x16\x17\x18\x19\x1a\x1b\x1c\x1d\x1e\x1f\x20\x21\x00\x00\x22\x23\x24\x25\x26\x27\x28\x29\x2a\x2b\x2c\x2d\x2e\x2f\x30\x00\x31\x32\x33\x34\x35\x36\x00\x00\x00\x00\x00\x00\x00\x00\x00\x00\x37\x38\x39\x3a\x3b\x3c\x3d\x3e\x3f\x40\x41\x42\x43\x44\x45\x00\x46\x47\x48\x49\x4a\x4b\x00\x00\x00\x00\x00\x00\x00\x00\x00\x00\x00\x00\x00\x00\x00\x00\x00\x00\x00\x00\x00\x00\x00\x00\x00\x00\x4c\x4d\x4e\x4f\x50\x51\x52\x53\x54\x55\x56\x00\x00\x00\x00\x00\x57\x58\x59\x5a\x5b\x5c\x5d\x5e\x5f\x00\x00\x00\x00\x00\x00\x60\x61\x62\x63\x64\x00\x00\x00\x00\x00\x00\x00\x00\x00\x00\x00\x00\x00\x00\x00\x00\x00\x00\x00\x00\x00\x00\x00\x00\x00\x00\x00\x00\x00\x00\x00\x00\x00\x00\x00\x00\x00\x00\x00\x00\x00\x00\x00\x00\x00\x00\x00\x00\x00\x00\x00\x00\x00\x00\x00\x00\x00\x00\x00\x00\x00\x00\x00\x00\x00\x00\x00\x00\x00\x00\x00\x00\x00\x00\x00\x00\x00\x65\x66\x67\x68\x69\x6a\x6b\x6c\x6d\x6e\x6f\x00\x00\x00\x00\x70\x71\x72\x73\x74\x75\x76\x77\x78\x79\x7a";
-        return lifted(0, 0, table[c as usize]);
+    match c {
+        0x00 => 17,
+        0x01 => 18,
+        0x02 => 19,
+        0x10 => 20,
+        0x11 => 21,
+        0x12 => 22,
+        0x13 => 23,
+        0x14 => 24,
+        0x15 => 25,
+        0x16 => 26,
+        0x17 => 27,
+        0x18 => 28,
+        0x19 => 29,
+        0x1A => 30,
+        0x1B => 31,
+        0x1C => 32,
+        0x1D => 33,
+        0x20 => 34,
+        0x21 => 35,
+        0x22 => 36,
+        0x23 => 37,
+        0x24 => 38,
+        0x25 => 39,
+        0x26 => 40,
+        0x27 => 41,
+        0x28 => 42,
+        0x29 => 43,
+        0x2A => 44,
+        0x2B => 45,
+        0x2C => 46,
+        0x2D => 47,
+        0x2E => 48,
+        0x30 => 49,
+        0x31 => 50,
+        0x32 => 51,
+        0x33 => 52,
+        0x34 => 53,
+        0x35 => 54,
+        0x40 => 55,
+        0x41 => 56,
+        0x42 => 57,
+        0x43 => 58,
+        0x44 => 59,
+        0x45 => 60,
+        0x46 => 61,
+        0x47 => 62,
+        0x48 => 63,
+        0x49 => 64,
+        0x4A => 65,
+        0x4B => 66,
+        0x4C => 67,
+        0x4D => 68,
+        0x4E => 69,
+        0x50 => 70,
+        0x51 => 71,
+        0x52 => 72,
+        0x53 => 73,
+        0x54 => 74,
+        0x55 => 75,
+        0x70 => 76,
+        0x71 => 77,
+        0x72 => 78,
+        0x73 => 79,
+        0x74 => 80,
+        0x75 => 81,
+        0x76 => 82,
+        0x77 => 83,
+        0x78 => 84,
+        0x79 => 85,
+        0x7A => 86,
+        0x80 => 87,
+        0x81 => 88,
+        0x82 => 89,
+        0x83 => 90,
+        0x84 => 91,
+        0x85 => 92,
+        0x86 => 93,
+        0x87 => 94,
+        0x88 => 95,
+        0x8F => 96,
+        0x90 => 97,
+        0x91 => 98,
+        0x92 => 99,
+        0x93 => 100,
+        0xE1 => 101,
+        0xE2 => 102,
+        0xE3 => 103,
+        0xE4 => 104,
+        0xE5 => 105,
+        0xE6 => 106,
+        0xE7 => 107,
+        0xE8 => 108,
+        0xE9 => 109,
+        0xEA => 110,
+        0xEB => 111,
+        0xF0 => 112,
+        0xF1 => 113,
+        0xF2 => 114,
+        0xF3 => 115,
+        0xF4 => 116,
+        0xF5 => 117,
+        0xF6 => 118,
+        0xF7 => 119,
+        0xF8 => 120,
+        0xF9 => 121,
+        0xFA => 122,
+        _ => 0,
     }
-    0
 }
 
 pub fn esis_option_name(c: u8) -> u32
     ensures { result ≡ text_in esis_options (octets "unknown") c }
 {
-    if c < 208 {
-        let table =
-            b"\x00\x00\x00\x00\x00\x00\x00\x00\x00\x00\x00\x00\x00\x00\x00\x00\x00\x00\x00\x00\x00\x00\x00\x00\x00\x00\x00\x00\x00\x00\x00\x00\x00\x00\x00\x00\x00\x00\x00\x00\x00\x00\x00\x00\x00\x00\x00\x00\x00\x00\x00\x00\x00\x00\x00\x00\x00\x00\x00\x00\x00\x00\x00\x00\x00\x00\x00\x00\x00\x00\x00\x00\x00\x00\x00\x00\x00\x00\x00\x00\x00\x00\x00\x00\x00\x00\x00\x00\x00\x00\x00\x00\x00\x00\x00\x00\x00\x00\x00\x00\x00\x00\x00\x00\x00\x00\x00\x00\x00\x00\x00\x00\x00\x00\x00\x00\x00\x00\x00\x00\x00\x00\x00\x00\x00\x00\x00\x00\x00\x8a\x00\x00\x00\x00\x00\x00\x8b\x00\x00\x00\x00\x00\x00\x00\x00\x00\x00\x00\x00\x00\x00\x00\x00\x00\x00\x00\x00\x00\x00\x00\x00\x00\x00\x00\x00\x00\x00\x00\x00\x00\x00\x00\x00\x00\x00\x00\x00\x00\x00\x00\x00\x00\x00\x00\x00\x00\x00\x00\x00\x00\x00\x00\x00\x00\x00\x00\x00\x8d\x00\x00\x00\x00\x00\x00\x00\x00\x00\x8c";
-        return lifted(142, 0, table[c as usize]);
+    match c {
+        0x81 => 138,
+        0x88 => 139,
+        0xCF => 140,
+        0xC5 => 141,
+        _ => 142,
     }
-    142
 }
 
 pub fn idrp_attr_name(c: u8) -> u32
     ensures { result ≡ text_in idrp_attributes (octets "unknown") c }
 {
-    if c < 17 {
-        let table = b"\x00\x93\x94\x95\x96\x97\x98\x99\x9a\x9b\x9c\x9d\x9e\x9f\x8d\xa0\x8c";
-        return lifted(142, 0, table[c as usize]);
+    match c {
+        1 => 147,
+        2 => 148,
+        3 => 149,
+        4 => 150,
+        5 => 151,
+        6 => 152,
+        7 => 153,
+        8 => 154,
+        9 => 155,
+        10 => 156,
+        11 => 157,
+        12 => 158,
+        13 => 159,
+        14 => 141,
+        15 => 160,
+        16 => 140,
+        _ => 142,
     }
-    142
 }
 
 pub fn idrp_pdu_type_name(c: u8) -> u32
     ensures { result ≡ text_in idrp_types (octets "?") c }
 {
-    if c < 7 {
-        let table = b"\x00\xa1\xa2\xa3\xa4\xa5\xa6";
-        return lifted(123, 0, table[c as usize]);
+    match c {
+        1 => 161,
+        2 => 162,
+        3 => 163,
+        4 => 164,
+        5 => 165,
+        6 => 166,
+        _ => 123,
     }
-    123
 }
 
 pub fn idrp_error_code_name(c: u8) -> u32
     ensures { result ≡ text_in idrp_errors (octets "?") c }
 {
-    if c < 6 {
-        let table = b"\x00\xa7\xa8\xa9\xaa\xab";
-        return lifted(123, 0, table[c as usize]);
+    match c {
+        1 => 167,
+        2 => 168,
+        3 => 169,
+        4 => 170,
+        5 => 171,
+        _ => 123,
     }
-    123
 }
 
 fn open_error(sub: u8) -> u32
     ensures { result ≡ text_in open_errors [] sub }
 {
-    if sub < 8 {
-        let table = b"\x00\xac\xad\xae\xaf\xb0\xb1\xb2";
-        return lifted(0, 0, table[sub as usize]);
+    match sub {
+        1 => 172,
+        2 => 173,
+        3 => 174,
+        4 => 175,
+        5 => 176,
+        6 => 177,
+        7 => 178,
+        _ => 0,
     }
-    0
 }
 
 fn update_error(sub: u8) -> u32
     ensures { result ≡ text_in update_errors [] sub }
 {
-    if sub < 14 {
-        let table = b"\x00\xb3\xb4\xb5\xb6\xb7\xb8\xb9\xba\xbb\xbc\xbd\xbe\xbf";
-        return lifted(0, 0, table[sub as usize]);
+    match sub {
+        1 => 179,
+        2 => 180,
+        3 => 181,
+        4 => 182,
+        5 => 183,
+        6 => 184,
+        7 => 185,
+        8 => 186,
+        9 => 187,
+        10 => 188,
+        11 => 189,
+        12 => 190,
+        13 => 191,
+        _ => 0,
     }
-    0
 }
 
 fn refresh_error(sub: u8) -> u32
     ensures { result ≡ text_in refresh_errors [] sub }
 {
-    if sub < 3 {
-        let table = b"\x00\xc0\xc1";
-        return lifted(0, 0, table[sub as usize]);
+    match sub {
+        1 => 192,
+        2 => 193,
+        _ => 0,
     }
-    0
 }
 
+#[tactic(auto, unfolding(crate::specs::Codes::error_subcodes))]
 pub fn idrp_error_subcode_name(code: u8, sub: u8) -> u32
     ensures { result ≡ text_in (error_subcodes code) [] sub }
 {
-    if code == 1 {
-        return open_error(sub);
+    match code {
+        1 => open_error(sub),
+        2 => update_error(sub),
+        5 => refresh_error(sub),
+        _ => 0,
     }
-    if code == 2 {
-        return update_error(sub);
-    }
-    if code == 5 {
-        return refresh_error(sub);
-    }
-    0
 }
 
 pub fn clnp_option_name(c: u8) -> u32
     ensures { result ≡ text_in clnp_options [] c }
 {
-    if c < 206 {
-        let table =
-            b"\x00\x00\x00\x00\x00\xc7\x00\x00\x00\x00\x00\x00\x00\x00\x00\x00\x00\x00\x00\x00\x00\x00\x00\x00\x00\x00\x00\x00\x00\x00\x00\x00\x00\x00\x00\x00\x00\x00\x00\x00\x00\x00\x00\x00\x00\x00\x00\x00\x00\x00\x00\x00\x00\x00\x00\x00\x00\x00\x00\x00\x00\x00\x00\x00\x00\x00\x00\x00\x00\x00\x00\x00\x00\x00\x00\x00\x00\x00\x00\x00\x00\x00\x00\x00\x00\x00\x00\x00\x00\x00\x00\x00\x00\x00\x00\x00\x00\x00\x00\x00\x00\x00\x00\x00\x00\x00\x00\x00\x00\x00\x00\x00\x00\x00\x00\x00\x00\x00\x00\x00\x00\x00\x00\x00\x00\x00\x00\x00\x00\x00\x00\x00\x00\x00\x00\x00\x00\x00\x00\x00\x00\x00\x00\x00\x00\x00\x00\x00\x00\x00\x00\x00\x00\x00\x00\x00\x00\x00\x00\x00\x00\x00\x00\x00\x00\x00\x00\x00\x00\x00\x00\x00\x00\x00\x00\x00\x00\x00\x00\x00\x00\x00\x00\x00\x00\x00\x00\x00\x00\x00\x00\x00\x00\xc8\x00\xc9\xca\x8d\xcb\x00\xcc\x00\x00\xcd\xce\x8c";
-        return lifted(0, 0, table[c as usize]);
+    match c {
+        0x05 => 199,
+        0xC1 => 200,
+        0xC3 => 201,
+        0xC4 => 202,
+        0xC5 => 141,
+        0xC6 => 203,
+        0xC8 => 204,
+        0xCB => 205,
+        0xCC => 206,
+        0xCD => 140,
+        _ => 0,
     }
-    0
 }
 
 pub fn atn_traffic_type_name(c: u8) -> u32
     ensures { result ≡ text_in traffic_types [] c }
 {
-    if c < 17 {
-        let table = b"\x00\xcf\xd0\x00\xd1\x00\x00\x00\xd2\x00\x00\x00\x00\x00\x00\x00\xd3";
-        return lifted(0, 0, table[c as usize]);
+    match c {
+        1 => 207,
+        2 => 208,
+        4 => 209,
+        8 => 210,
+        16 => 211,
+        _ => 0,
     }
-    0
 }
 
 pub fn atsc_class_name(c: u8) -> u32
     ensures { result ≡ text_in atsc_classes [] c }
 {
-    if c < 129 {
-        let table =
-            b"\x00\xd4\xd5\x00\xd6\x00\x00\x00\xd7\x00\x00\x00\x00\x00\x00\x00\xd8\x00\x00\x00\x00\x00\x00\x00\x00\x00\x00\x00\x00\x00\x00\x00\xd9\x00\x00\x00\x00\x00\x00\x00\x00\x00\x00\x00\x00\x00\x00\x00\x00\x00\x00\x00\x00\x00\x00\x00\x00\x00\x00\x00\x00\x00\x00\x00\xda\x00\x00\x00\x00\x00\x00\x00\x00\x00\x00\x00\x00\x00\x00\x00\x00\x00\x00\x00\x00\x00\x00\x00\x00\x00\x00\x00\x00\x00\x00\x00\x00\x00\x00\x00\x00\x00\x00\x00\x00\x00\x00\x00\x00\x00\x00\x00\x00\x00\x00\x00\x00\x00\x00\x00\x00\x00\x00\x00\x00\x00\x00\x00\xdb";
-        return lifted(0, 0, table[c as usize]);
+    match c {
+        1 => 212,
+        2 => 213,
+        4 => 214,
+        8 => 215,
+        16 => 216,
+        32 => 217,
+        64 => 218,
+        128 => 219,
+        _ => 0,
     }
-    0
 }
 
 pub fn atn_subnet_name(c: u8) -> u32
     ensures { result ≡ text_in subnets [] c }
 {
-    if c < 6 {
-        let table = b"\x00\xdc\xdd\xde\xdf\xe0";
-        return lifted(0, 0, table[c as usize]);
+    match c {
+        1 => 220,
+        2 => 221,
+        3 => 222,
+        4 => 223,
+        5 => 224,
+        _ => 0,
     }
-    0
 }
 
 pub fn atn_security_class_name(c: u8) -> u32
     ensures { result ≡ text_in security_classes [] c }
 {
-    if c < 6 {
-        let table = b"\x00\xe1\xe2\xe3\xe4\xe5";
-        return lifted(0, 0, table[c as usize]);
+    match c {
+        1 => 225,
+        2 => 226,
+        3 => 227,
+        4 => 228,
+        5 => 229,
+        _ => 0,
     }
-    0
 }
 
 pub fn cotp_dr_reason(c: u8) -> u32
     ensures { result ≡ text_in disconnect_reasons [] c }
 {
-    if c < 139 {
-        let table =
-            b"\x01\x02\x03\x04\x00\x00\x00\x00\x00\x00\x00\x00\x00\x00\x00\x00\x00\x00\x00\x00\x00\x00\x00\x00\x00\x00\x00\x00\x00\x00\x00\x00\x00\x00\x00\x00\x00\x00\x00\x00\x00\x00\x00\x00\x00\x00\x00\x00\x00\x00\x00\x00\x00\x00\x00\x00\x00\x00\x00\x00\x00\x00\x00\x00\x00\x00\x00\x00\x00\x00\x00\x00\x00\x00\x00\x00\x00\x00\x00\x00\x00\x00\x00\x00\x00\x00\x00\x00\x00\x00\x00\x00\x00\x00\x00\x00\x00\x00\x00\x00\x00\x00\x00\x00\x00\x00\x00\x00\x00\x00\x00\x00\x00\x00\x00\x00\x00\x00\x00\x00\x00\x00\x00\x00\x00\x00\x00\x00\x05\x06\x07\x08\x09\x0a\x00\x0b\x0c\x00\x0d";
-        return lifted(0, 244, table[c as usize]);
+    match c {
+        0 => 245,
+        1 => 246,
+        2 => 247,
+        3 => 248,
+        128 => 249,
+        129 => 250,
+        130 => 251,
+        131 => 252,
+        132 => 253,
+        133 => 254,
+        135 => 255,
+        136 => 256,
+        138 => 257,
+        _ => 0,
     }
-    0
 }
 
 pub fn cotp_er_reject_cause(c: u8) -> u32
     ensures { result ≡ text_in reject_causes [] c }
 {
-    if c < 4 {
-        let table = b"\x01\x0e\x0f\x10";
-        return lifted(0, 244, table[c as usize]);
+    match c {
+        0 => 245,
+        1 => 258,
+        2 => 259,
+        3 => 260,
+        _ => 0,
     }
-    0
 }
 
 pub fn cotp_param_name(c: u8) -> u32
     ensures { result ≡ text_in cotp_params [] c }
 {
-    if c < 243 {
-        let table =
-            b"\x00\x00\x00\x00\x00\x00\x00\x00\x7a\x00\x00\x00\x00\x00\x00\x00\x00\x00\x00\x00\x00\x00\x00\x00\x00\x00\x00\x00\x00\x00\x00\x00\x00\x00\x00\x00\x00\x00\x00\x00\x00\x00\x00\x00\x00\x00\x00\x00\x00\x00\x00\x00\x00\x00\x00\x00\x00\x00\x00\x00\x00\x00\x00\x00\x00\x00\x00\x00\x00\x00\x00\x00\x00\x00\x00\x00\x00\x00\x00\x00\x00\x00\x00\x00\x00\x00\x00\x00\x00\x00\x00\x00\x00\x00\x00\x00\x00\x00\x00\x00\x00\x00\x00\x00\x00\x00\x00\x00\x00\x00\x00\x00\x00\x00\x00\x00\x00\x00\x00\x00\x00\x00\x00\x00\x00\x00\x00\x00\x00\x00\x00\x00\x00\x7b\x7c\x01\x7d\x7e\x7f\x80\x81\x00\x00\x82\x00\x00\x00\x00\x00\x00\x00\x00\x00\x00\x00\x00\x00\x00\x00\x00\x00\x00\x00\x00\x00\x00\x00\x00\x00\x00\x00\x00\x00\x00\x00\x00\x00\x00\x00\x00\x00\x00\x00\x00\x00\x00\x00\x00\x00\x00\x00\x00\x83\x84\x85\x86\x87\x88\x89\x8a\x00\x00\x00\x00\x00\x00\x00\x00\x00\x00\x00\x00\x00\x00\x00\x00\x00\x00\x00\x00\x00\x00\x00\x00\x8b\x00\x00\x00\x00\x00\x00\x00\x00\x00\x00\x00\x00\x00\x00\x00\x8c\x00\x8d";
-        return lifted(0, 139, table[c as usize]);
+    match c {
+        0x08 => 261,
+        0x85 => 262,
+        0x86 => 263,
+        0x87 => 140,
+        0x88 => 264,
+        0x89 => 265,
+        0x8A => 266,
+        0x8B => 267,
+        0x8C => 268,
+        0x8F => 269,
+        0xC0 => 270,
+        0xC1 => 271,
+        0xC2 => 272,
+        0xC3 => 273,
+        0xC4 => 274,
+        0xC5 => 275,
+        0xC6 => 276,
+        0xC7 => 277,
+        0xE0 => 278,
+        0xF0 => 279,
+        0xF2 => 280,
+        _ => 0,
     }
-    0
 }

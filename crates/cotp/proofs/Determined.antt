@@ -3,8 +3,7 @@ use mathlib.Core.Path.{◌≡◌}
 use mathlib.Core.List.{List}
 use lib.ListN.{length}
 use Prim.Native.Nat.{ℕ}
-use Rattle.cells.specs.Answer.{Parsed}
-use Rattle.cells.specs.declared.answer.Answer.{Answer}
+use Rattle.cells.specs.Answer.{Answer, Parsed}
 use Rattle.cells.proofs.Answers as answers
 use Rattle.cotp.specs.Tpdu.{cotp_cells}
 

@@ -1,7 +1,6 @@
 pub mod Values
 pub mod Heads
-pub mod Walk
-pub mod ByName
+pub mod Parts
 pub mod Segments
 pub mod Cells
 pub mod Thin

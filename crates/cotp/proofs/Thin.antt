@@ -2,19 +2,19 @@
 use Prim.Native.Nat.{ℕ, ◌+◌, ◌*◌, ◌-◌, ◌/◌, ◌%◌, ◌≤◌}
 use mathlib.Core.Path.{◌≡◌, refl, sym, ap, subst, ◌∙◌}
 use mathlib.Core.List.{List, [], ◌++◌}
-use mathlib.Core.Bool.{Bool, true, false, ◌&&◌, ◌||◌}
+use mathlib.Core.Bool.{Bool, true, false, ◌&&◌}
 use native.Mathlib.Omega.{arith}
 use lib.Dec.{eqb, leb}
 use lib.ListN.{length, get_or, length-append}
 use Rattle.octets.specs.Read.{be16}
 use Rattle.octets.proofs.Picks.{pick_elim}
-use Rattle.names.specs.Numbers.{k_code, k_name, k_tpdu_size, k_value, k_value_hex, k_tpdu, k_dst_ref, k_src_ref, k_class, k_options, k_reason, k_reason_text, k_reject_cause, k_reject_cause_text, k_roa, k_eot, k_tpdu_seq, k_credit, k_extended, k_params, k_user_data_len, k_tsdu_segment, t_cr, t_cc, t_dr, t_dc, t_dt, t_ed, t_ea, t_er}
+use Rattle.names.specs.Numbers.{k_code, k_name, k_tpdu_size, k_value, k_value_hex, k_tpdu, k_dst_ref, k_src_ref, k_class, k_options, k_reason, k_reason_text, k_reject_cause, k_reject_cause_text, k_roa, k_eot, k_tpdu_seq, k_credit, k_extended, k_params, k_user_data_len, k_tsdu_segment}
 use Rattle.codes.specs.Codes.{text_in, cotp_params, disconnect_reasons, reject_causes}
 use Rattle.cells.specs.Items.{Items, none, leaf, number, flag, octet, text, record_of, in_list, ◌⊕◌, flat}
 use Rattle.cells.specs.Answer.{number_of, answer_to}
 use Rattle.cells.specs.Walk.{step_of}
-use Rattle.cells.specs.declared.entry.Entry.{Entry}
-use Rattle.cells.specs.declared.entry.Entry.TheVariants.{Stop, Body}
+use Rattle.std.specs.Prelude.{Option, Some, None}
+use Rattle.cells.specs.declared.entry.Body.{Body}
 use Rattle.cells.proofs.Rows.{group-size, in_list_thin}
 use Rattle.cells.proofs.Walks.{Thin, thin, fuse, flat_walk}
 use Rattle.cells.proofs.Answers.{enough}
@@ -23,8 +23,10 @@ use Rattle.fields.specs.Member.{opt_text, opt_yes}
 use Rattle.fields.proofs.Tlvs.{Whole, tlv_whole}
 use Rattle.fields.proofs.Sizes.{size, rows, empty, one, text-thin, yes_thin, part-thin}
 use Rattle.cotp.specs.Params.{two_octets, param_value, param, param_step, param_items}
-use Rattle.cotp.specs.Tpdu.{head_of, src_ref, seq_member, credit_members, data_members, fixed_members, param_part, has_user, partial, user_members, members_of, cotp_cells}
+use Rattle.cotp.specs.Tpdu.{name_of, head_of, src_ref, connect_members, seq_member, credit_members, data_members, fixed_members, param_part, has_user, partial, user_members, members_of, head_cells, cotp_cells}
 use Rattle.cotp.specs.declared.tpdu.Head.{Head}
+use Rattle.cotp.specs.declared.tpdu.Kind.{Kind}
+use Rattle.cotp.specs.declared.tpdu.Kind.TheVariants.{Cr, Cc, Dr, Dc, Dt, Ed, Ak, Ea, Rj, Er}
 
 -- ---- parameters: at most three cells for each octet of the part
 value-thin : (d base : ℕ) (s : List ℕ) (t i n : ℕ) → size d (param_value base s t i n) ≡ 1
@@ -51,10 +53,10 @@ param-size d base s t i n =
       value-thin (d + 1) base s t i n,
     )
 
-step-thin : (d base : ℕ) (s : List ℕ) (i : ℕ) (e : Entry) → Whole s i e
+step-thin : (d base : ℕ) (s : List ℕ) (i : ℕ) (e : Option Body) → Whole s i e
     → Thin (param_step base s) (λ c. length (flat d c)) 3 (length s) i (step_of (λ start n. param base s (get_or s i 0) start n) e)
-step-thin d base s i Stop w = tt
-step-thin d base s i (Body start n) w = (omega (arith, w.0), w.2, omega (arith, w.0, param-size d base s (get_or s i 0) start n))
+step-thin d base s i None w = tt
+step-thin d base s i (Some b) w = (omega (arith, w.0), w.2, omega (arith, w.0, param-size d base s (get_or s i 0) b.start b.len))
 
 pub params-thin : (d base : ℕ) (s : List ℕ) → length (flat d (param_items base s)) ≤ 3 * length s
 params-thin d base s =
@@ -76,7 +78,7 @@ module _ (d : ℕ) (s : List ℕ) where
   abbrev Few : Items → Type 0
   Few x = size d x ≤ 3
 
-  connect_thin : Few (src_ref s ⊕ (leaf k_class (number (get_or s 6 0 / 16)) none ⊕ leaf k_options (number (get_or s 6 0 % 16)) none))
+  connect_thin : Few (connect_members s)
   connect_thin =
       let c : Items = leaf k_class (number (get_or s 6 0 / 16)) none in
       let o : Items = leaf k_options (number (get_or s 6 0 % 16)) none in
@@ -115,15 +117,17 @@ module _ (d : ℕ) (s : List ℕ) where
       let c : Items = leaf k_credit (number (get_or s 1 0 % 16)) none in
       omega (arith, rows d c (seq_member s false), one d k_credit (number (get_or s 1 0 % 16)), seq_thin false)
 
-  fixed-thin : (k : ℕ) (e : Bool) → Few (fixed_members s k e)
-  unfolding fixed_members
-  fixed-thin k e =
-      pick_elim Few (eqb k t_cr || eqb k t_cc) (λ h. connect_thin)
-      (λ h. pick_elim Few (eqb k t_dr) (λ h. request-thin)
-      (λ h. pick_elim Few (eqb k t_dc) (λ h. omega (arith, one d k_src_ref (number (be16 (get_or s 4 0) (get_or s 5 0)))))
-      (λ h. pick_elim Few (eqb k t_er) (λ h. error_thin)
-      (λ h. pick_elim Few (eqb k t_dt) (λ h. asked-thin e)
-      (λ h. pick_elim Few (eqb k t_ed) (λ h. omega (arith, data_thin e)) (λ h. pick_elim Few (eqb k t_ea) (λ h. omega (arith, seq_thin e)) (λ h. credit_thin e)))))))
+  fixed-thin : (k : Kind) (e : Bool) → Few (fixed_members s k e)
+  fixed-thin Cr e = connect_thin
+  fixed-thin Cc e = connect_thin
+  fixed-thin Dr e = request-thin
+  fixed-thin Dc e = omega (arith, one d k_src_ref (number (be16 (get_or s 4 0) (get_or s 5 0))))
+  fixed-thin Er e = error_thin
+  fixed-thin Dt e = asked-thin e
+  fixed-thin Ed e = omega (arith, data_thin e)
+  fixed-thin Ea e = omega (arith, seq_thin e)
+  fixed-thin Ak e = credit_thin e
+  fixed-thin Rj e = credit_thin e
 
   user_thin : (h : Head) → size d (user_members s h) ≤ 2
   user_thin h =
@@ -136,9 +140,9 @@ module _ (d : ℕ) (s : List ℕ) where
 pub members_thin : (d base : ℕ) (s : List ℕ) (h : Head) → length (flat d (members_of base s h)) ≤ 3 * length s + 10
 unfolding members_of
 members_thin d base s h =
-    let name : Items = leaf k_tpdu (text h.name) none in
+    let name : Items = leaf k_tpdu (text (name_of h.kind)) none in
     let dst : Items = leaf k_dst_ref (number (be16 (get_or s 2 0) (get_or s 3 0))) none in
-    let fixed : Items = fixed_members s h.name h.extended in
+    let fixed : Items = fixed_members s h.kind h.extended in
     let long : Items = opt_yes k_extended h.extended in
     let params : Items = in_list k_params (param_items (base + h.fixed) (param_part s h)) in
     let user : Items = user_members s h in
@@ -149,9 +153,9 @@ members_thin d base s h =
       rows d fixed (long ⊕ (params ⊕ user)),
       rows d long (params ⊕ user),
       rows d params user,
-      one d k_tpdu (text h.name),
+      one d k_tpdu (text (name_of h.kind)),
       one d k_dst_ref (number (be16 (get_or s 2 0) (get_or s 3 0))),
-      fixed-thin d s h.name h.extended,
+      fixed-thin d s h.kind h.extended,
       yes_thin d k_extended h.extended,
       list_thin d (base + h.fixed) s h,
       user_thin d s h,
@@ -160,9 +164,13 @@ members_thin d base s h =
 pub record_thin : (s : List ℕ) (h : Head) → length (flat 0 (record_of (members_of 0 s h))) ≤ 3 * length s + 12
 record_thin s h = omega (arith, group-size 0 true 0 (members_of 0 s h), members_thin 1 0 s h)
 
+head_thin : (s : List ℕ) (h : Option Head) → length (head_cells s h) ≤ 4 * length s + 64
+head_thin s None = omega arith
+head_thin s (Some h) = omega (arith, record_thin s h)
+
 pub cotp_thin : (s : List ℕ) → length (cotp_cells s) ≤ 4 * length s + 64
 unfolding cotp_cells
-cotp_thin s = pick_elim (λ (l : List ℕ). length l ≤ 4 * length s + 64) (eqb (head_of s).name 0) (λ h. omega arith) (λ h. omega (arith, record_thin s (head_of s)))
+cotp_thin s = head_thin s (head_of s)
 
 -- with four cells for each octet and 64 more the answer is not 10
 pub never_short : (s : List ℕ) (room : ℕ) → 4 * length s + 64 ≤ room → number_of (answer_to (length s) (cotp_cells s) room) ≡ 10 → ⊥

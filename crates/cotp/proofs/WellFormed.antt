@@ -1,8 +1,8 @@
 -- The members of a TPDU are a good row at any depth and place, and the cells of a readable TPDU read back as its record.
-use Prim.Native.Nat.{ℕ, ◌+◌, ◌*◌, ◌-◌, ◌/◌, ◌^◌, ◌≤◌, ◌<◌}
-use mathlib.Core.Path.{◌≡◌, refl, sym, ap, ◌∙◌}
+use Prim.Native.Nat.{ℕ, ◌+◌, ◌*◌, ◌-◌, ◌^◌, ◌≤◌, ◌<◌}
+use mathlib.Core.Path.{◌≡◌, refl, ap, ◌∙◌}
 use mathlib.Core.List.{List, []}
-use mathlib.Core.Bool.{Bool, true, false, ◌&&◌, ◌||◌}
+use mathlib.Core.Bool.{Bool, true, false, ◌&&◌}
 use mathlib.Core.Option.{some}
 use native.Mathlib.Omega.{arith}
 use borrow.Author.Tests.{leb-true}
@@ -11,15 +11,15 @@ use lib.ListN.{length, get_or, drop, length-take, length-drop}
 use lib.Pow.{pow_mono}
 use Rattle.octets.proofs.Tests.{and_right}
 use Rattle.octets.proofs.Picks.{pick_elim}
-use Rattle.names.specs.Numbers.{last_text, k_name, k_reason_text, k_reject_cause_text, k_extended, k_params, k_tsdu_segment, t_cr, t_cc, t_dr, t_dc, t_dt, t_ed, t_ea, t_er}
+use Rattle.names.specs.Numbers.{last_text, k_name, k_reason_text, k_reject_cause_text, k_extended, k_params, k_tsdu_segment}
 use Rattle.codes.specs.Codes.{text_in, cotp_params, disconnect_reasons, reject_causes}
 use Rattle.codes.proofs.Lows.{text-low}
 use Rattle.cells.specs.Items.{Items, none, ◌⊕◌, in_list}
 use Rattle.cells.specs.Read.{items_of}
 use Rattle.cells.specs.Good.{GoodRow}
 use Rattle.cells.specs.Walk.{step_of}
-use Rattle.cells.specs.declared.entry.Entry.{Entry}
-use Rattle.cells.specs.declared.entry.Entry.TheVariants.{Stop, Body}
+use Rattle.std.specs.Prelude.{Option, Some, None}
+use Rattle.cells.specs.declared.entry.Body.{Body}
 use Rattle.cells.proofs.Rows.{good-⊕, good_in_list}
 use Rattle.cells.proofs.Walks.{Each, all}
 use Rattle.cells.proofs.WellFormed.{reads-back}
@@ -28,17 +28,26 @@ use Rattle.fields.specs.Member.{opt_text, opt_yes}
 use Rattle.fields.proofs.Tlvs.{Whole, tlv_whole}
 use Rattle.fields.proofs.Goods.{Octets, text-good, yes_good, take-small, drop-small}
 use Rattle.cotp.specs.Params.{two_octets, param_value, param, param_step, param_items}
-use Rattle.cotp.specs.Tpdu.{name_of, head_of, src_ref, seq_member, credit_members, data_members, fixed_members, param_part, has_user, partial, user_members, members_of, cotp_cells}
+use Rattle.cotp.specs.Tpdu.{name_of, head_of, src_ref, connect_members, seq_member, credit_members, data_members, fixed_members, param_part, has_user, partial, user_members, members_of, cotp_cells}
 use Rattle.cotp.specs.declared.tpdu.Head.{Head}
+use Rattle.cotp.specs.declared.tpdu.Kind.{Kind}
+use Rattle.cotp.specs.declared.tpdu.Kind.TheVariants.{Cr, Cc, Dr, Dc, Dt, Ed, Ak, Ea, Rj, Er}
 use Rattle.cotp.proofs.Values.{size_range}
 use Rattle.cotp.proofs.Heads.{Said, said}
-use Rattle.cotp.proofs.ByName.{every}
 use Rattle.cotp.proofs.Cells.{cells_are}
 
 -- ---- text numbers are listed
-name-low : (high : ℕ) → name_of high ≤ last_text
-name-low high =
-    every (λ k. k ≤ last_text) (omega arith) (omega arith) (omega arith) (omega arith) (omega arith) (omega arith) (omega arith) (omega arith) (omega arith) (omega arith) (omega arith) high
+name-listed : (k : Kind) → (0 < name_of k) × (name_of k ≤ last_text)
+name-listed Cr = (omega arith, omega arith)
+name-listed Cc = (omega arith, omega arith)
+name-listed Dr = (omega arith, omega arith)
+name-listed Dc = (omega arith, omega arith)
+name-listed Dt = (omega arith, omega arith)
+name-listed Ed = (omega arith, omega arith)
+name-listed Ak = (omega arith, omega arith)
+name-listed Ea = (omega arith, omega arith)
+name-listed Rj = (omega arith, omega arith)
+name-listed Er = (omega arith, omega arith)
 
 -- ---- rows are good, for an input of n octets and with d groups open around them
 module _ (n : ℕ) where
@@ -70,10 +79,10 @@ module _ (n : ℕ) where
       abbrev good : Items → Type 0
       good c = GoodRow n false d c
 
-      each : base + length s ≤ n → (i : ℕ) (e : Entry) → Whole s i e
+      each : base + length s ≤ n → (i : ℕ) (e : Option Body) → Whole s i e
           → Each (param_step base s) (λ k. none) ◌⊕◌ (length s) good good (λ k. tt) (λ c r q g. good-⊕ n false d c r q g) (step_of (λ start len. param base s (get_or s i 0) start len) e)
-      each h i Stop w = tt
-      each h i (Body start len) w = param-good (get_or s i 0) start len (small i) (omega (arith, w.2, h))
+      each h i None w = tt
+      each h i (Some b) w = param-good (get_or s i 0) b.start b.len (small i) (omega (arith, w.2, h))
 
       pub params-good : base + length s ≤ n → GoodRow n false d (param_items base s)
       params-good h = all (param_step base s) (λ k. none) ◌⊕◌ (length s) good good (λ k. tt) (λ c r q g. good-⊕ n false d c r q g) (λ i l. each h i (tlv_at s i) (tlv_whole s i))
@@ -96,25 +105,29 @@ module _ (n : ℕ) where
     credit_good true = (deep, (omega arith, omega arith), omega arith, (deep, (omega arith, omega arith), omega (arith, small 8, small 9), tt))
     credit_good false = (deep, (omega arith, omega arith), omega arith, seq_good false)
 
-    fixed-good : (k : ℕ) (e : Bool) → row (fixed_members s k e)
-    unfolding fixed_members
-    fixed-good k e =
-        pick_elim row (eqb k t_cr || eqb k t_cc)
-        (λ h. (deep, (omega arith, omega arith), omega (arith, small 4, small 5), (deep, (omega arith, omega arith), omega (arith, small 6), (deep, (omega arith, omega arith), omega arith, tt))))
-        (λ h. pick_elim row (eqb k t_dr)
-        (λ h. (deep, (omega arith, omega arith), omega (arith, small 4, small 5), (deep, (omega arith, omega arith), omega (arith, small 6), text-good n d k_reason_text (text_in disconnect_reasons [] (get_or s 6 0)) deep (omega arith, omega arith) (text-low disconnect_reasons [] (get_or s 6 0)))))
-        (λ h. pick_elim row (eqb k t_dc) (λ h. src-good)
-        (λ h. pick_elim row (eqb k t_er)
-        (λ h. (deep, (omega arith, omega arith), omega (arith, small 4), text-good n d k_reject_cause_text (text_in reject_causes [] (get_or s 4 0)) deep (omega arith, omega arith) (text-low reject_causes [] (get_or s 4 0))))
-        (λ h. pick_elim row (eqb k t_dt) (λ h. (deep, (omega arith, omega arith), omega arith, data_good e))
-        (λ h. pick_elim row (eqb k t_ed) (λ h. data_good e) (λ h. pick_elim row (eqb k t_ea) (λ h. seq_good e) (λ h. credit_good e)))))))
+    connect-good : row (connect_members s)
+    connect-good = (deep, (omega arith, omega arith), omega (arith, small 4, small 5), (deep, (omega arith, omega arith), omega (arith, small 6), (deep, (omega arith, omega arith), omega arith, tt)))
+
+    fixed-good : (k : Kind) (e : Bool) → row (fixed_members s k e)
+    fixed-good Cr e = connect-good
+    fixed-good Cc e = connect-good
+    fixed-good Dr e =
+        (deep, (omega arith, omega arith), omega (arith, small 4, small 5), (deep, (omega arith, omega arith), omega (arith, small 6), text-good n d k_reason_text (text_in disconnect_reasons [] (get_or s 6 0)) deep (omega arith, omega arith) (text-low disconnect_reasons [] (get_or s 6 0))))
+    fixed-good Dc e = src-good
+    fixed-good Er e =
+        (deep, (omega arith, omega arith), omega (arith, small 4), text-good n d k_reject_cause_text (text_in reject_causes [] (get_or s 4 0)) deep (omega arith, omega arith) (text-low reject_causes [] (get_or s 4 0)))
+    fixed-good Dt e = (deep, (omega arith, omega arith), omega arith, data_good e)
+    fixed-good Ed e = data_good e
+    fixed-good Ea e = seq_good e
+    fixed-good Ak e = credit_good e
+    fixed-good Rj e = credit_good e
 
     user_good : (h : Head) → length s ≤ 65535 → row (user_members s h)
     user_good h l =
         pick_elim row (has_user s h) (λ e. (deep, (omega arith, omega arith), omega arith, yes_good n d k_tsdu_segment (partial s h) deep (omega arith, omega arith))) (λ e. tt)
 
 -- ---- the members of a TPDU that was read, at depth d and at place base of an input of n octets
-module _ (n d base : ℕ) (s : List ℕ) (small : Octets s) (short : length s ≤ 65535) (deep : d < 14) (within : base + length s ≤ n) (h : Head) (w : Said s h) (readable : h.name ≡ 0 → ⊥) where
+module _ (n d base : ℕ) (s : List ℕ) (small : Octets s) (short : length s ≤ 65535) (deep : d < 14) (within : base + length s ≤ n) (h : Head) (w : Said s h) where
   part-within : base + h.fixed + length (param_part s h) ≤ n
   part-within =
       let f : h.fixed ≤ length s = omega (arith, w.front, w.whole) in
@@ -135,30 +148,28 @@ module _ (n d base : ℕ) (s : List ℕ) (small : Octets s) (short : length s �
   unfolding members_of
   good-read =
       let l : d < 16 = omega arith in
-      let named : 0 < h.name = omega (arith, readable) in
-      let low : h.name ≤ last_text = omega (arith, w.named, name-low (get_or s 1 0 / 16)) in
-      let fixed : Items = fixed_members s h.name h.extended in
+      let fixed : Items = fixed_members s h.kind h.extended in
       let long : Items = opt_yes k_extended h.extended in
       let params : Items = in_list k_params (param_items (base + h.fixed) (param_part s h)) in
       let user : Items = user_members s h in (
         l,
         (omega arith, omega arith),
-        (named, low),
+        name-listed h.kind,
         (
           l,
           (omega arith, omega arith),
           omega (arith, small 2, small 3),
-          good-⊕ n true d fixed (long ⊕ (params ⊕ user)) (fixed-good n s small d l h.name h.extended)
+          good-⊕ n true d fixed (long ⊕ (params ⊕ user)) (fixed-good n s small d l h.kind h.extended)
               (good-⊕ n true d long (params ⊕ user) (yes_good n d k_extended h.extended l (omega arith, omega arith))
               (good-⊕ n true d params user list_good (user_good n s small d l h short))),
         ),
       )
 
-module _ (s : List ℕ) (small : Octets s) (short : length s ≤ 65535) (readable : (head_of s).name ≡ 0 → ⊥) where
+module _ (s : List ℕ) (small : Octets s) (short : length s ≤ 65535) (h : Head) (readable : head_of s ≡ Some h) where
   -- for an input of n octets that has s at its place base
-  pub good_members : (n d base : ℕ) → d ≤ 8 → base + length s ≤ n → GoodRow n true d (members_of base s (head_of s))
-  good_members n d base l h = good-read n d base s small short (omega arith) h (head_of s) (said s (head_of s) refl readable) readable
+  pub good_members : (n d base : ℕ) → d ≤ 8 → base + length s ≤ n → GoodRow n true d (members_of base s h)
+  good_members n d base l w = good-read n d base s small short (omega arith) w h (said s h readable)
 
-  pub cotp_reads-back : items_of (length s) (cotp_cells s) ≡ some (members_of 0 s (head_of s))
+  pub cotp_reads-back : items_of (length s) (cotp_cells s) ≡ some (members_of 0 s h)
   cotp_reads-back =
-      ap (items_of (length s)) (sym (cells_are s (head_of s) refl readable)) ∙ reads-back (length s) (members_of 0 s (head_of s)) (omega arith) (good_members (length s) 1 0 (omega arith) (omega arith))
+      ap (items_of (length s)) (cells_are s h readable) ∙ reads-back (length s) (members_of 0 s h) (omega arith) (good_members (length s) 1 0 (omega arith) (omega arith))

@@ -1,5 +1,5 @@
 -- The parameters of a TPDU: `parse_cotp_params`.
-use Rattle.std.specs.Prelude.{ℕ, ◌+◌, ◌^◌, Bool, true, ◌&&◌, ◌||◌, List, [], leb, eqb, length, get_or}
+use Rattle.std.specs.Prelude.{ℕ, ◌+◌, ◌^◌, Bool, true, ◌&&◌, ◌||◌, List, [], Option, Some, None, leb, eqb, length, get_or}
 use Rattle.octets.specs.Text.{pick}
 use Rattle.octets.specs.Read.{be16, be32}
 use Rattle.names.specs.Numbers.{k_code, k_name, k_tpdu_size, k_value, k_value_hex}
@@ -23,6 +23,11 @@ param_value base s t i n =
     (pick (eqb t 0xC4 && eqb n 1) (leaf k_value (number v) none)
     (pick (eqb t 0xF2 && eqb n 4) (leaf k_value (number (be32 v (get_or s (i + 1) 0) (get_or s (i + 2) 0) (get_or s (i + 3) 0))) none)
     (leaf k_value_hex (part (base + i) n) none))))
+
+-- a value by its key and number, where it is one, and else n octets at a place of the input
+abbrev pub value_items : ℕ → ℕ → Option (ℕ × ℕ) → Items
+value_items from n None = leaf k_value_hex (part from n) none
+value_items from n (Some v) = leaf v.0 (number v.1) none
 
 abbrev pub param : ℕ → List ℕ → ℕ → ℕ → ℕ → Items
 param base s t i n = group true 0 (leaf k_code (octet t) none ⊕ (opt_text k_name (text_in cotp_params [] t) ⊕ param_value base s t i n)) none

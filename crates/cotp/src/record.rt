@@ -1,24 +1,24 @@
 // A TPDU's record as cells.
-ghost use Rattle.std.specs.Prelude.{◌≡◌, [], ◌+◌, ◌%◌, ◌/◌, ◌<◌, ◌≤◌, length, get_or};
+ghost use Rattle.std.specs.Prelude.{◌≡◌, [], Some, ◌+◌, ◌%◌, ◌<◌, ◌≤◌, length, get_or};
 ghost use Rattle.octets.specs.Emit.{Emits};
 ghost use Rattle.octets.specs.Text.{pick};
-ghost use Rattle.names.specs.Numbers.{k_class, k_options, k_reason, k_reason_text, k_reject_cause, k_reject_cause_text, k_roa, k_params};
+ghost use Rattle.names.specs.Numbers.{k_reason, k_reason_text, k_reject_cause, k_reject_cause_text, k_roa, k_params};
 ghost use Rattle.codes.specs.Codes.{text_in, disconnect_reasons, reject_causes};
 ghost use Rattle.cells.specs.Items.{none, leaf, number, flag, record_of, in_list, flat, ◌⊕◌};
 ghost use Rattle.fields.specs.Member.{opt_text};
 ghost use Rattle.cotp.specs.Params.{param_items};
-ghost use Rattle.cotp.specs.Tpdu.{head_of, src_ref, seq_member, credit_members, data_members, fixed_members, param_part, has_user, partial as partialOf, user_members, members_of};
+ghost use Rattle.cotp.specs.Tpdu.{fixed_len, head_of, src_ref, connect_members, seq_member, credit_members, data_members, fixed_members, param_part, has_user, partial as is_partial, user_members, members_of};
 
 use crate::params::put_params;
-use crate::tpdu::{Head, seq};
+use crate::tpdu::{Head, Kind, seq};
 use cells::emit::{close_group, open_object, put_flag, put_number, put_text_number};
 use codes::{cotp_dr_reason, cotp_er_reject_cause};
 use fields::member::{put_text_if, put_yes_if};
+use fields::part::Part;
 use names::key::{
     CLASS, CREDIT, DST_REF, EOT, EXTENDED, OPTIONS, REASON, REASON_TEXT, REJECT_CAUSE,
     REJECT_CAUSE_TEXT, ROA, SRC_REF, TPDU, TPDU_SEQ, TSDU_SEGMENT, USER_DATA_LEN,
 };
-use names::text::{CC, CR, DC, DR, DT, EA, ED, ER};
 use octets::read::u16_of;
 
 fn put_src(out: &mut [u64], at: usize, depth: u8, b: &[u8]) -> usize
@@ -38,7 +38,7 @@ fn put_seq(out: &mut [u64], at: usize, depth: u8, b: &[u8], extended: bool) -> u
 // CR and CC.
 fn put_connect(out: &mut [u64], at: usize, depth: u8, b: &[u8]) -> usize
     requires { (depth < 16) × (7 ≤ length b.now) }
-    ensures { Emits out.old at (flat depth (src_ref b.now ⊕ (leaf k_class (number (get_or b.now 6 0 / 16)) none ⊕ leaf k_options (number (get_or b.now 6 0 % 16)) none))) out.new result }
+    ensures { Emits out.old at (flat depth (connect_members b.now)) out.new result }
 {
     let src = put_src(out, at, depth, b);
     let class = put_number(out, src, depth, CLASS, (b[6] / 16) as u32);
@@ -101,96 +101,97 @@ fn put_credit(out: &mut [u64], at: usize, depth: u8, b: &[u8], extended: bool) -
     put_seq(out, credit, depth, b, false)
 }
 
+// A TPDU that was read, in its place of the input: the octets have its fixed part.
+#[derive(Clone, Copy)]
+struct Read<'a> {
+    part: Part<'a>,
+    head: Head,
+    ghost low: { head.li < 256 },
+    ghost whole: { fixed_len head.kind head.extended ≤ length part.octets.now },
+}
+
 // The members of the fixed part.
-fn put_fixed(out: &mut [u64], at: usize, depth: u8, b: &[u8], h: Head) -> usize
-    requires { (depth < 16) × (h ≡ head_of b.now) × (h.name ≡ 0 → ⊥) }
-    ensures { Emits out.old at (flat depth (fixed_members b.now h.name h.extended)) out.new result }
+fn put_fixed(out: &mut [u64], at: usize, depth: u8, t: Read) -> usize
+    requires { depth < 16 }
+    ensures { Emits out.old at (flat depth (fixed_members t.entry.part.octets.now t.entry.head.kind t.entry.head.extended)) out.new result }
 {
-    let name = h.name;
-    let extended = h.extended;
-    match name {
-        CR => put_connect(out, at, depth, b),
-        CC => put_connect(out, at, depth, b),
-        DR => put_request(out, at, depth, b),
-        DC => put_src(out, at, depth, b),
-        ER => put_error(out, at, depth, b),
-        DT => put_asked_data(out, at, depth, b, extended),
-        ED => put_data(out, at, depth, b, extended),
-        EA => put_seq(out, at, depth, b, extended),
-        _ => put_credit(out, at, depth, b, extended),
+    let b = t.part.octets;
+    let extended = t.head.extended;
+    match t.head.kind {
+        Kind::Cr | Kind::Cc => put_connect(out, at, depth, b),
+        Kind::Dr => put_request(out, at, depth, b),
+        Kind::Dc => put_src(out, at, depth, b),
+        Kind::Er => put_error(out, at, depth, b),
+        Kind::Dt => put_asked_data(out, at, depth, b, extended),
+        Kind::Ed => put_data(out, at, depth, b, extended),
+        Kind::Ea => put_seq(out, at, depth, b, extended),
+        Kind::Ak | Kind::Rj => put_credit(out, at, depth, b, extended),
     }
 }
 
 // The parameters, up to the octet that LI counts to, where the octets have it.
-fn put_variable(out: &mut [u64], at: usize, depth: u8, base: usize, b: &[u8], h: Head) -> usize
-    requires { (depth < 14) × (base + length b.now < 65536) × (h ≡ head_of b.now) × (h.name ≡ 0 → ⊥) }
-    ensures { Emits out.old at (flat depth (in_list k_params (param_items (base + h.fixed) (param_part b.now h)))) out.new result }
+fn put_variable(out: &mut [u64], at: usize, depth: u8, t: Read) -> usize
+    requires { depth < 14 }
+    ensures { Emits out.old at (flat depth (in_list k_params (param_items (t.entry.part.base + t.entry.head.fixed) (param_part t.entry.part.octets.now t.entry.head)))) out.new result }
 {
-    let from = h.fixed;
-    let to = h.li + 1;
-    if b.len() < to {
+    let from = t.head.fixed;
+    let Some(params) = t.part.octets.get(from..t.head.li + 1) else {
         return at;
-    }
-    if to < from {
-        return at;
-    }
-    put_params(out, at, depth, base + from, &b[from..to])
+    };
+    put_params(out, at, depth, t.part.base + from, params)
 }
 
-fn has_user(b: &[u8], h: Head) -> bool
-    requires { h.li < 256 }
-    ensures { result ≡ has_user b.now h }
+fn has_user(t: Read) -> bool
+    ensures { result ≡ has_user t.entry.part.octets.now t.entry.head }
 {
-    let name = h.name;
-    match name {
-        DT => h.li + 1 < b.len(),
-        ED => h.li + 1 < b.len(),
-        _ => false,
-    }
+    matches!(t.head.kind, Kind::Dt | Kind::Ed) && t.head.li + 1 < t.part.octets.len()
 }
 
 // A DT that is not a whole unit.
-fn partial(b: &[u8], h: Head) -> bool
-    requires { (h ≡ head_of b.now) × (h.name ≡ 0 → ⊥) }
-    ensures { result ≡ partialOf b.now h }
+fn partial(t: Read) -> bool
+    ensures { result ≡ is_partial t.entry.part.octets.now t.entry.head }
 {
-    if h.name == DT {
-        if b[4] / 128 == 0 {
-            return true;
-        }
-        return seq(b, h.extended) != 0;
-    }
-    false
+    let b = t.part.octets;
+    matches!(t.head.kind, Kind::Dt) && (b[4] / 128 == 0 || seq(b, t.head.extended) != 0)
 }
 
 // User data, of DT and ED.
-fn put_user(out: &mut [u64], at: usize, depth: u8, b: &[u8], h: Head) -> usize
-    requires { (depth < 16) × (length b.now < 65536) × (h ≡ head_of b.now) × (h.name ≡ 0 → ⊥) }
-    ensures { Emits out.old at (flat depth (user_members b.now h)) out.new result }
+fn put_user(out: &mut [u64], at: usize, depth: u8, t: Read) -> usize
+    requires { depth < 16 }
+    ensures { Emits out.old at (flat depth (user_members t.entry.part.octets.now t.entry.head)) out.new result }
 {
-    if has_user(b, h) {
-        let n = b.len() - (h.li + 1);
-        let told = put_number(out, at, depth, USER_DATA_LEN, n as u32);
-        return put_yes_if(out, told, depth, TSDU_SEGMENT, partial(b, h));
+    if !has_user(t) {
+        return at;
     }
-    at
+    let n = t.part.octets.len() - (t.head.li + 1);
+    let told = put_number(out, at, depth, USER_DATA_LEN, n as u32);
+    put_yes_if(out, told, depth, TSDU_SEGMENT, partial(t))
+}
+
+fn put_tpdu(out: &mut [u64], at: usize, depth: u8, t: Read) -> usize
+    requires { depth < 14 }
+    ensures { Emits out.old at (flat depth (members_of t.entry.part.base t.entry.part.octets.now t.entry.head)) out.new result }
+{
+    let b = t.part.octets;
+    let named = put_text_number(out, at, depth, TPDU, t.head.kind.name());
+    let dst = put_number(out, named, depth, DST_REF, u16_of(b[2], b[3]) as u32);
+    let fixed = put_fixed(out, dst, depth, t);
+    let told = put_yes_if(out, fixed, depth, EXTENDED, t.head.extended);
+    let listed = put_variable(out, told, depth, t);
+    put_user(out, listed, depth, t)
 }
 
 // The members of a TPDU that stands at place base of the input.
 pub fn put_members(out: &mut [u64], at: usize, depth: u8, base: usize, b: &[u8], h: Head) -> usize
-    requires { (depth < 14) × (base + length b.now < 65536) × (h ≡ head_of b.now) × (h.name ≡ 0 → ⊥) }
+    requires { (depth < 14) × (base + length b.now < 65536) × (head_of b.now ≡ Some h) }
     ensures { Emits out.old at (flat depth (members_of base b.now h)) out.new result }
 {
-    let named = put_text_number(out, at, depth, TPDU, h.name);
-    let dst = put_number(out, named, depth, DST_REF, u16_of(b[2], b[3]) as u32);
-    let fixed = put_fixed(out, dst, depth, b, h);
-    let told = put_yes_if(out, fixed, depth, EXTENDED, h.extended);
-    let listed = put_variable(out, told, depth, base, b, h);
-    put_user(out, listed, depth, b, h)
+    let part = Part { base, octets: b };
+    put_tpdu(out, at, depth, Read { part, head: h })
 }
 
 pub fn put_record(out: &mut [u64], at: usize, b: &[u8], h: Head) -> usize
-    requires { (length b.now < 65536) × (h ≡ head_of b.now) × (h.name ≡ 0 → ⊥) }
+    requires { (length b.now < 65536) × (head_of b.now ≡ Some h) }
     ensures { Emits out.old at (flat 0 (record_of (members_of 0 b.now h))) out.new result }
 {
     let opened = open_object(out, at, 0, 0);

@@ -1,5 +1,4 @@
 pub mod Addresses
-pub mod Options
 pub mod Records
 pub mod Thin
 pub mod Cells

@@ -16,8 +16,8 @@ use Rattle.codes.specs.Codes.{text_in, esis_options}
 use Rattle.cells.specs.Items.{Items, none, leaf, number, part, text, record_of, ◌⊕◌, flat}
 use Rattle.cells.specs.Answer.{number_of, answer_to}
 use Rattle.cells.specs.Walk.{step_of}
-use Rattle.cells.specs.declared.entry.Entry.{Entry}
-use Rattle.cells.specs.declared.entry.Entry.TheVariants.{Stop, Body}
+use Rattle.std.specs.Prelude.{Option, Some, None}
+use Rattle.cells.specs.declared.entry.Body.{Body}
 use Rattle.cells.proofs.Rows.{group-size, in_list_thin}
 use Rattle.cells.proofs.Walks.{Thin, thin, fuse, flat_walk}
 use Rattle.cells.proofs.Answers.{enough}
@@ -49,10 +49,10 @@ option-thin d t at n =
     let c : Items = leaf k_value_hex (part at n) none in
     omega (arith, group-size d true 0 (a ⊕ (b ⊕ c)), rows (d + 1) a (b ⊕ c), rows (d + 1) b c, one (d + 1) k_type (text (text_in esis_options (octets "unknown") t)), one (d + 1) k_type_code (number t), one (d + 1) k_value_hex (part at n))
 
-option-step : (d base : ℕ) (s : List ℕ) (i : ℕ) (e : Entry) → Whole s i e
+option-step : (d base : ℕ) (s : List ℕ) (i : ℕ) (e : Option Body) → Whole s i e
     → Thin (option_step base s) (λ c. length (flat d c)) 4 (length s) i (step_of (λ start n. option (get_or s i 0) (base + start) n) e)
-option-step d base s i Stop w = tt
-option-step d base s i (Body start n) w = (omega (arith, w.0), w.2, omega (arith, w.0, option-thin d (get_or s i 0) (base + start) n))
+option-step d base s i None w = tt
+option-step d base s i (Some b) w = (omega (arith, w.0), w.2, omega (arith, w.0, option-thin d (get_or s i 0) (base + b.start) b.len))
 
 pub options-thin : (d base : ℕ) (s : List ℕ) → length (flat d (option_items base s)) ≤ 4 * length s
 options-thin d base s =

@@ -19,8 +19,8 @@ use Rattle.cells.specs.Items.{Items, none, ◌⊕◌}
 use Rattle.cells.specs.Read.{items_of}
 use Rattle.cells.specs.Good.{GoodRow, Good}
 use Rattle.cells.specs.Walk.{step_of}
-use Rattle.cells.specs.declared.entry.Entry.{Entry}
-use Rattle.cells.specs.declared.entry.Entry.TheVariants.{Stop, Body}
+use Rattle.std.specs.Prelude.{Option, Some, None}
+use Rattle.cells.specs.declared.entry.Body.{Body}
 use Rattle.cells.proofs.Rows.{good-⊕, good_in_list}
 use Rattle.cells.proofs.Walks.{Each, all}
 use Rattle.cells.proofs.WellFormed.{reads-back}
@@ -66,10 +66,10 @@ module _ (n base : ℕ) (s : List ℕ) (small : Octets s) (within : base + lengt
   abbrev fine : Items → Type 0
   fine c = GoodRow n false 2 c
 
-  each-option : (i : ℕ) (e : Entry) → Whole s i e
+  each-option : (i : ℕ) (e : Option Body) → Whole s i e
       → Each (option_step base s) (λ k. none) ◌⊕◌ (length s) fine fine (λ k. tt) (λ c r q g. good-⊕ n false 2 c r q g) (step_of (λ start len. option (get_or s i 0) (base + start) len) e)
-  each-option i Stop w = tt
-  each-option i (Body start len) w =
+  each-option i None w = tt
+  each-option i (Some b) w =
       let low : get_or s i 0 < 4294967296 = omega (arith, small i) in (
         omega arith,
         refl,

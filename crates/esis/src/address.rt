@@ -15,10 +15,7 @@ pub fn address_ok(b: &[u8], p: usize) -> bool
     ensures { result ≡ address_ok b.now p }
 {
     let n = wide(b[p]);
-    if p + 1 + n <= b.len() {
-        return n <= 20;
-    }
-    false
+    p + 1 + n <= b.len() && n <= 20
 }
 
 // At most n addresses from place p on, up to the first that is not whole or too long.
@@ -26,20 +23,15 @@ pub fn addresses(out: &mut [u64], at: usize, b: &[u8], n: u8, p: usize) -> usize
     requires { length b.now < 65536 }
     ensures { Emits out.old at (flat 2 (address_items b.now n p)) out.new result }
 {
-    let mut left = n;
     let mut i = p;
     let mut next = at;
-    while 0 < left {
-        if b.len() <= i {
-            return next;
-        }
-        if !address_ok(b, i) {
+    for _ in 0..n {
+        if b.len() <= i || !address_ok(b, i) {
             return next;
         }
         let len = wide(b[i]);
         next = put_hex_part(out, next, 2, 0, i + 1, len);
         i = i + 1 + len;
-        left = left - 1;
     }
     next
 }
@@ -49,13 +41,7 @@ pub fn put_addresses(out: &mut [u64], at: usize, b: &[u8], n: u8, p: usize) -> u
     requires { length b.now < 65536 }
     ensures { Emits out.old at (flat 1 (in_list k_addresses (address_items b.now n p))) out.new result }
 {
-    if n == 0 {
-        return at;
-    }
-    if b.len() <= p {
-        return at;
-    }
-    if !address_ok(b, p) {
+    if n == 0 || b.len() <= p || !address_ok(b, p) {
         return at;
     }
     let opened = open_list(out, at, 1, ADDRESSES);
@@ -68,18 +54,15 @@ pub fn address_end(b: &[u8], n: u8, p: usize) -> usize
     requires { p ≤ length b.now }
     ensures { (result ≡ address_end b.now n p) × (result ≤ length b.now) }
 {
-    let mut left = n;
     let mut i = p;
-    while 0 < left {
+    for _ in 0..n {
         if b.len() <= i {
             return i;
         }
         if !address_ok(b, i) {
             return i + 1;
         }
-        let len = wide(b[i]);
-        i = i + 1 + len;
-        left = left - 1;
+        i = i + 1 + wide(b[i]);
     }
     i
 }

@@ -16,16 +16,12 @@ use octets::read::u16_of;
 fn type_name(t: u8) -> u32
     ensures { result ≡ type_of t }
 {
-    if t == 2 {
-        return ESH;
+    match t {
+        2 => ESH,
+        4 => ISH,
+        6 => RD,
+        _ => QUESTION,
     }
-    if t == 4 {
-        return ISH;
-    }
-    if t == 6 {
-        return RD;
-    }
-    QUESTION
 }
 
 // An ESH has a count of addresses, an ISH one address, and others none.
@@ -33,28 +29,18 @@ fn address_count(b: &[u8]) -> u8
     requires { 8 < length b.now }
     ensures { result ≡ address_count b.now }
 {
-    if b[4] % 32 == 2 {
-        if 9 < b.len() {
-            return b[9];
-        }
-        return 0;
+    match b[4] % 32 {
+        2 => b.get(9).copied().unwrap_or(0),
+        4 => 1,
+        _ => 0,
     }
-    if b[4] % 32 == 4 {
-        return 1;
-    }
-    0
 }
 
 fn addresses_at(b: &[u8]) -> usize
     requires { 8 < length b.now }
     ensures { (result ≡ addresses_at b.now) × (result ≤ length b.now) }
 {
-    if b[4] % 32 == 2 {
-        if 9 < b.len() {
-            return 10;
-        }
-    }
-    9
+    if b[4] % 32 == 2 && 9 < b.len() { 10 } else { 9 }
 }
 
 fn put_head(out: &mut [u64], at: usize, b: &[u8]) -> usize
@@ -70,10 +56,8 @@ fn put_behind(out: &mut [u64], at: usize, b: &[u8], p: usize) -> usize
     requires { (8 < length b.now) × (length b.now < 65536) × (p ≡ options_at b.now) × (p ≤ length b.now) }
     ensures { Emits out.old at (flat 1 (option_member b.now)) out.new result }
 {
-    if b[4] % 32 == 2 {
-        return put_options(out, at, p, &b[p..]);
-    }
-    if b[4] % 32 == 4 {
+    let t = b[4] % 32;
+    if t == 2 || t == 4 {
         return put_options(out, at, p, &b[p..]);
     }
     at

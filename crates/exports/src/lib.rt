@@ -1,7 +1,7 @@
 // The C boundary: numbers and slices only. Numbers that come with an answer are written into said, as far as it goes.
 #![tactic(auto)]
 
-ghost use Rattle.std.specs.Prelude.{◌≡◌, ◌∷◌, [], length, set};
+ghost use Rattle.std.specs.Prelude.{◌≡◌, ◌∷◌, [], length};
 ghost use Rattle.octets.specs.Emit.{put};
 ghost use Rattle.cells.specs.Answer.{number_of, count_of, output_of};
 ghost use Rattle.cotp.specs.Tpdu.{cotp_cells};
@@ -15,16 +15,15 @@ ghost use Rattle.network.specs.Network.{network_cells};
 ghost use Rattle.exports.specs.Told.{Told, is_piece, piece_numbers, is_segment, segment_numbers, address_numbers};
 
 use cells::answer::{Answer, count as count_of, number};
-use clnp::segment::{Addresses, clnp_addresses, clnp_segment};
-use cotp::segment::{Segment, cotp_dt_segment};
+use clnp::segment::{clnp_addresses, clnp_cotp_tpdu, clnp_segment};
+use cotp::segment::cotp_dt_segment;
+use octets::emit::put_all;
 
-// A number at index i, if said goes so far.
-fn say(said: &mut [u64], i: usize, x: u64)
-    ensures { said.new ≡ set said.old i x }
+// Numbers from the front on, as far as said goes.
+fn say(said: &mut [u64], numbers: &[u64])
+    ensures { said.new ≡ put said.old 0 numbers.now }
 {
-    if i < said.len() {
-        said[i] = x;
-    }
+    put_all(said, 0, numbers);
 }
 
 // The answer; the count of cells and the payload's place are said.
@@ -34,22 +33,18 @@ pub extern "C" fn atn_parse_x25(b: &[u8], out: &mut [u64], said: &mut [u64]) -> 
     ensures out_after { out.new ≡ output_of (x25_answer b.now (length out.old)) (x25_cells b.now) out.old }
     ensures said_after { said.new ≡ put said.old 0 (count_of (x25_answer b.now (length out.old)) ∷ payload_for b.now (x25_answer b.now (length out.old)) ∷ []) }
 {
-    let mut answer: u64 = 0;
-    let mut count: usize = 0;
-    let part = x25::parse_x25(b, out, &mut answer, &mut count);
+    let (a, part) = x25::parse_x25(b, out);
     let place = b.len() - part.len();
-    say(said, 0, count as u64);
-    say(said, 1, place as u64);
-    answer
+    say(said, &[count_of(a) as u64, place as u64]);
+    number(a) as u64
 }
 
 // The number of an answer; its count is said.
-#[tactic(auto, using(crate::proofs::Said::one))]
 fn tell(a: Answer, said: &mut [u64]) -> u64
     ensures value { result ≡ number_of a }
     ensures said_after { said.new ≡ put said.old 0 (count_of a ∷ []) }
 {
-    say(said, 0, count_of(a) as u64);
+    say(said, &[count_of(a) as u64]);
     number(a) as u64
 }
 
@@ -79,21 +74,14 @@ pub extern "C" fn atn_cotp_dt_segment(b: &[u8], said: &mut [u64]) -> bool
     ensures value { result ≡ is_piece (segment_of b.now) }
     ensures said_after { said.new ≡ put said.old 0 (piece_numbers (segment_of b.now)) }
 {
-    match cotp_dt_segment(b) {
-        Segment::Absent => false,
-        Segment::Piece {
-            dst,
-            eot,
-            number,
-            user,
-        } => {
-            say(said, 0, dst as u64);
-            say(said, 1, eot as u64);
-            say(said, 2, number as u64);
-            say(said, 3, user as u64);
-            true
-        }
-    }
+    let Some(s) = cotp_dt_segment(b) else {
+        return false;
+    };
+    say(
+        said,
+        &[s.dst as u64, s.eot as u64, s.number as u64, s.user as u64],
+    );
+    true
 }
 
 // The answer; the count of cells is said.
@@ -122,23 +110,20 @@ pub extern "C" fn atn_clnp_segment(b: &[u8], said: &mut [u64]) -> bool
     ensures value { result ≡ is_segment (clnpSegmentOf b.now) }
     ensures said_after { said.new ≡ put said.old 0 (segment_numbers (clnpSegmentOf b.now)) }
 {
-    match clnp_segment(b) {
-        clnp::segment::Segment::Absent => false,
-        clnp::segment::Segment::Fields {
-            id,
-            offset,
-            total,
-            more,
-            header,
-        } => {
-            say(said, 0, id as u64);
-            say(said, 1, offset as u64);
-            say(said, 2, total as u64);
-            say(said, 3, more as u64);
-            say(said, 4, header as u64);
-            true
-        }
-    }
+    let Some(s) = clnp_segment(b) else {
+        return false;
+    };
+    say(
+        said,
+        &[
+            s.id as u64,
+            s.offset as u64,
+            s.total as u64,
+            s.more as u64,
+            s.header as u64,
+        ],
+    );
+    true
 }
 
 // Whether the octets have two addresses; place and length of the destination and of the source are said.
@@ -147,32 +132,30 @@ pub extern "C" fn atn_clnp_addresses(b: &[u8], said: &mut [u64]) -> bool
     ensures value { result ≡ has_addresses (addresses_of b.now) }
     ensures said_after { said.new ≡ put said.old 0 (address_numbers (addresses_of b.now)) }
 {
-    match clnp_addresses(b) {
-        Addresses::Absent => false,
-        Addresses::Two {
-            dst,
-            dstlen,
-            src,
-            srclen,
-        } => {
-            say(said, 0, dst as u64);
-            say(said, 1, dstlen as u64);
-            say(said, 2, src as u64);
-            say(said, 3, srclen as u64);
-            true
-        }
-    }
+    let Some(a) = clnp_addresses(b) else {
+        return false;
+    };
+    say(
+        said,
+        &[a.dst as u64, a.dstlen as u64, a.src as u64, a.srclen as u64],
+    );
+    true
 }
 
-// The answer; the place of the TPDU is said.
+// The answer; the place of the TPDU is said, which is the end of the octets where there is none.
 #[unsafe(no_mangle)]
 pub extern "C" fn atn_clnp_cotp_tpdu(b: &[u8], said: &mut [u64]) -> u64
     ensures value { result ≡ tpdu_answer b.now (tpdu_of b.now) }
     ensures said_after { said.new ≡ put said.old 0 (tpdu_place b.now (tpdu_of b.now) ∷ []) }
 {
-    let mut answer: u64 = 0;
-    let part = clnp::segment::clnp_cotp_tpdu(b, &mut answer);
-    let place = b.len() - part.len();
-    say(said, 0, place as u64);
-    answer
+    match clnp_cotp_tpdu(b) {
+        Ok(part) => {
+            say(said, &[(b.len() - part.len()) as u64]);
+            0
+        }
+        Err(r) => {
+            say(said, &[b.len() as u64]);
+            number(Err(r)) as u64
+        }
+    }
 }

@@ -2,4 +2,5 @@
 #![tactic(auto)]
 
 pub mod member;
+pub mod part;
 pub mod tlv;

@@ -1,4 +1,5 @@
 -- Path attributes: their values by type and length, the walk over them, and the member.
+use Rattle.std.specs.Prelude.{Some, None}
 use Prim.Native.Nat.{ℕ, ◌+◌, ◌-◌, ◌≤◌, ◌<◌}
 use mathlib.Core.Path.{◌≡◌, sym, ap, subst, ◌∙◌}
 use mathlib.Core.List.{List, [], ◌++◌}
@@ -12,8 +13,8 @@ use Rattle.octets.proofs.Tests.{and_right}
 use Rattle.octets.proofs.Picks.{pick_yes, pick_no}
 use Rattle.names.specs.Numbers.{k_value, k_value_hex, k_path_attributes}
 use Rattle.cells.specs.Items.{Items, none, leaf, group, number, part, flat}
-use Rattle.cells.specs.Walk.{stop, entry, step_of, left_from, cells_from}
-use Rattle.cells.specs.declared.entry.Entry.TheVariants.{Stop, Body}
+use Rattle.cells.specs.Walk.{body, stop, entry, step_of, left_from, cells_from}
+use Rattle.cells.specs.declared.entry.Body.{Body}
 use Rattle.cells.proofs.Walks.{turn, done, over}
 use Rattle.idrp.specs.Update.{at16, attributes_at, attributes_from, attributes_end, shown, attribute_value, attribute, attribute_at, attribute_step, attribute_items, attributes_place, attributes_member}
 use Rattle.idrp.proofs.Entries.{Attribute, attribute-whole}
@@ -42,7 +43,7 @@ module _ (base : ℕ) (s : List ℕ) (t i n : ℕ) where
   no_value h l = sym (pick_no value other h ∙ pick_no octets none (le-ltb 0 n l))
 
 -- ---- an attribute that was found lies within the body
-pub whole-at : (s : List ℕ) (end i : ℕ) {start n : ℕ} → attribute_at s end i ≡ Body start n → (start ≡ i + 4) × (start + n ≤ length s)
+pub whole-at : (s : List ℕ) (end i : ℕ) {b : Body} → attribute_at s end i ≡ Some b → (b.start ≡ i + 4) × (b.start + b.len ≤ length s)
 whole-at s end i e = let w = subst (Attribute s i) e (attribute-whole s end i) in (w.0, w.2)
 
 module _ (s : List ℕ) (p : ℕ) (at : p ≡ attributes_at s) where
@@ -51,22 +52,22 @@ module _ (s : List ℕ) (p : ℕ) (at : p ≡ attributes_at s) where
 
 -- ---- the walk, to the end that the attributes' length gives
 module _ (s : List ℕ) (end : ℕ) (is : end ≡ attributes_end s) where
-  at-stop : (base i : ℕ) → attribute_at s end i ≡ Stop → attribute_step base s i ≡ stop
+  at-stop : (base i : ℕ) → attribute_at s end i ≡ None → attribute_step base s i ≡ stop
   at-stop base i e = ap (step_of (λ start n. attribute base s (get_or s (i + 1) 0) start n)) (ap (λ (k : ℕ). attribute_at s k i) (sym is) ∙ e)
 
-  at_body : (base i start n : ℕ) → attribute_at s end i ≡ Body start n → attribute_step base s i ≡ entry (start + n) (attribute base s (get_or s (i + 1) 0) start n)
-  at_body base i start n e =
+  at_body : (base i : ℕ) (b : Body) → attribute_at s end i ≡ Some b → attribute_step base s i ≡ entry (b.start + b.len) (attribute base s (get_or s (i + 1) 0) b.start b.len)
+  at_body base i b e =
       ap (step_of (λ start n. attribute base s (get_or s (i + 1) 0) start n)) (ap (λ (k : ℕ). attribute_at s k i) (sym is) ∙ e)
 
   -- the octets that it leaves from position i on
   abbrev pub left_at : ℕ → ℕ
   left_at i = left_from (attribute_step 0 s) (length s) i
 
-  pub left_behind : (i start n : ℕ) → i < length s → attribute_at s end i ≡ Body start n → left_at i ≡ left_at (start + n)
-  left_behind i start n h e =
-      turn (attribute_step 0 s) (λ k. k) (λ c r. r) (length s) i (start + n) (attribute 0 s (get_or s (i + 1) 0) start n) h (omega (arith, (whole-at s end i e).0)) (at_body 0 i start n e)
+  pub left_behind : (i : ℕ) (b : Body) → i < length s → attribute_at s end i ≡ Some b → left_at i ≡ left_at (b.start + b.len)
+  left_behind i b h e =
+      turn (attribute_step 0 s) (λ k. k) (λ c r. r) (length s) i (b.start + b.len) (attribute 0 s (get_or s (i + 1) 0) b.start b.len) h (omega (arith, (whole-at s end i e).0)) (at_body 0 i b e)
 
-  pub place-stop : (i : ℕ) → i < length s → left_at (attributes_from s) ≡ left_at i → attribute_at s end i ≡ Stop → i ≡ attributes_place s
+  pub place-stop : (i : ℕ) → i < length s → left_at (attributes_from s) ≡ left_at i → attribute_at s end i ≡ None → i ≡ attributes_place s
   place-stop i h q e =
       let z : left_at (attributes_from s) ≡ length s - i = q ∙ done (attribute_step 0 s) (λ k. k) (λ c r. r) (length s) i h (at-stop 0 i e) in
       let y : i ≡ length s - (length s - i) = omega (arith, h) in
@@ -77,21 +78,6 @@ module _ (s : List ℕ) (end : ℕ) (is : end ≡ attributes_end s) where
       let z : left_at (attributes_from s) ≡ 0 = q ∙ over (attribute_step 0 s) (λ k. k) (λ c r. r) (length s) i h in
       let y : i ≡ length s - 0 = omega (arith, h, l) in
       y ∙ ap (λ (k : ℕ). length s - k) (sym z)
-
-  -- the cells that it gives from position i on
-  module _ (base : ℕ) where
-    abbrev pub cells_at : ℕ → List ℕ
-    cells_at i = cells_from 3 (attribute_step base s) (length s) i
-
-    pub cells-stop : (i : ℕ) → i < length s → attribute_at s end i ≡ Stop → cells_at i ≡ []
-    cells-stop i h e = done (attribute_step base s) (λ n. []) (λ x r. flat 3 x ++ r) (length s) i h (at-stop base i e)
-
-    pub cells-turn : (i start n : ℕ) → i < length s → attribute_at s end i ≡ Body start n → cells_at i ≡ flat 3 (attribute base s (get_or s (i + 1) 0) start n) ++ cells_at (start + n)
-    cells-turn i start n h e =
-        turn (attribute_step base s) (λ n. []) (λ x r. flat 3 x ++ r) (length s) i (start + n) _ h (omega (arith, (whole-at s end i e).0)) (at_body base i start n e)
-
-    pub cells_over : (i : ℕ) → length s ≤ i → cells_at i ≡ []
-    cells_over i h = over (attribute_step base s) (λ n. []) (λ x r. flat 3 x ++ r) (length s) i h
 
 -- ---- the member
 module _ (base : ℕ) (s : List ℕ) (p : ℕ) (at : p ≡ attributes_at s) (n : ℕ) (is : n ≡ at16 s p) where

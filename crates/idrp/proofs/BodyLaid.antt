@@ -1,4 +1,5 @@
 -- A whole UPDATE that is laid out as ISO/IEC 10747 draws it, and what is read where its last entries are not.
+use Rattle.std.specs.Prelude.{Option, Some, None}
 use Prim.Native.Nat.{ℕ, ◌+◌, ◌<◌}
 use mathlib.Core.Bool.{Bool, true, false}
 use mathlib.Core.List.{List, [], ◌∷◌, ◌++◌, append_assoc, append-nil}
@@ -12,8 +13,8 @@ use Rattle.octets.specs.Read.{octets_of}
 use Rattle.octets.proofs.Picks.{pick_yes, pick_no}
 use Rattle.names.specs.Numbers.{k_update, k_withdrawn_routes, k_path_attributes, k_nlri, k_proto_type, k_clnp, k_prefixes}
 use Rattle.cells.specs.Items.{Items, none, leaf, group, number, flag, prefix, in_list, ◌⊕◌}
-use Rattle.cells.specs.Walk.{stop, step_of, walk_by, walk_from, items_from}
-use Rattle.cells.specs.declared.entry.Entry.TheVariants.{Stop, Body}
+use Rattle.cells.specs.declared.entry.Body.{Body}
+use Rattle.cells.specs.Walk.{body, stop, step_of, walk_by, walk_from, items_from}
 use Rattle.cells.proofs.Walks.{done}
 use Rattle.idrp.specs.Update.{at16, attributes_at, attribute_at, attribute_items, attributes_place, nlri_addresses, nlri_len, nlri_at, nlri, nlri_step, nlri_items, update_readable, routes_member, attributes_member, update_members}
 use Rattle.idrp.specs.Pdu.{body_members}
@@ -83,7 +84,7 @@ no_octets : (l : List ℕ) → length l ≡ 0 → l ≡ []
 no_octets [] z = refl
 no_octets (x ∷ l) z = absurd (omega (arith, z))
 
-either-stop : (b : Bool) → pick b Stop Stop ≡ Stop
+either-stop : (b : Bool) → pick {A = Option Body} b None None ≡ None
 either-stop true = refl
 either-stop false = refl
 
@@ -120,7 +121,7 @@ module _ (u : layout.Body) (r : BodyRight u) (before : List Attribute) (a : Attr
       let q : get_or t (i + 1) 0 ≡ a.type = octet t left i 1 from-left in
       let l : length t ≡ i + (4 + length (reaches_laid u.reach)) = omega (arith, long t left i from-left) in
       let x : leb (nlri_addresses t i) (length t) ≡ false = lt-leb (nlri_addresses t i) (length t) (omega (arith, q, l, h)) in
-      (λ j. step_of (λ start n. nlri base t i start n) (pick (leb (i + 7) (length t)) (pick (x j) (pick (leb (nlri_addresses t i + nlri_len t i) (length t)) (Body (nlri_addresses t i) (nlri_len t i)) Stop) Stop) Stop))
+      (λ j. step_of (λ start n. nlri base t i start n) (pick (leb (i + 7) (length t)) (pick (x j) (pick (leb (nlri_addresses t i + nlri_len t i) (length t)) (body (nlri_addresses t i) (nlri_len t i)) None) None) None))
       ∙ ap (step_of (λ start n. nlri base t i start n)) (either-stop (leb (i + 7) (length t)))
 
   -- and is none at all where its type is above the number of octets behind

@@ -2,7 +2,6 @@ pub mod Entries
 pub mod Listed
 pub mod Routes
 pub mod Attributes
-pub mod Prefixes
 pub mod Nlris
 pub mod Updates
 pub mod Records

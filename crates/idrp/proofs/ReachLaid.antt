@@ -1,4 +1,5 @@
 -- Reachability that is laid out as ISO/IEC 10747 draws it is read as what was laid out.
+use Rattle.std.specs.Prelude.{None}
 use Prim.Native.Nat.{ℕ, ◌+◌, ◌/◌, ◌≤◌, ◌<◌}
 use mathlib.Core.Bool.{Bool, true, false, ◌&&◌}
 use mathlib.Core.List.{List, [], ◌∷◌, ◌++◌, append_assoc}
@@ -12,8 +13,7 @@ use Rattle.octets.specs.Read.{octets_of}
 use Rattle.octets.proofs.Picks.{pick_elim}
 use Rattle.names.specs.Numbers.{k_proto_type, k_clnp, k_prefixes}
 use Rattle.cells.specs.Items.{Items, none, leaf, group, number, flag, prefix, ◌⊕◌}
-use Rattle.cells.specs.Walk.{stop, entry, step_of, items_from}
-use Rattle.cells.specs.declared.entry.Entry.TheVariants.{Stop, Body}
+use Rattle.cells.specs.Walk.{body, stop, entry, step_of, items_from}
 use Rattle.cells.proofs.Walks.{turn, done, over}
 use Rattle.idrp.specs.Update.{at16, prefix_step, prefix_items, nlri_addresses, nlri_len, nlri_at, is_clnp, nlri, nlri_step}
 use Rattle.idrp.specs.Layout.{Prefix, prefixes_laid, prefixes_read, PrefixesRight, PrefixesStand, Reach, reach_laid, reaches_laid, clnp_reach, reach_read, reaches_read, ReachesRight, ReachesStand, reaches_given}
@@ -35,7 +35,7 @@ module _ (base : ℕ) (s : List ℕ) (p : Prefix) (rest : List ℕ) (i : ℕ) (w
       let l : length s ≡ i + (1 + m + length rest) = omega (arith, long s (prefix_laid p ++ rest) i w, length-append p.octets rest) in
       let t : leb (i + 1 + (get_or s i 0 + 7) / 8) (length s) ≡ true = le-leb (i + 1 + (get_or s i 0 + 7) / 8) (length s) (omega (arith, c, l)) in
       let e : base + (i + 1) ≡ base + i + 1 = omega arith in
-      (λ j. step_of (λ start n. leaf 0 (prefix (base + start) n (d j)) none) (pick (t j) (Body (i + 1) (c j)) Stop))
+      (λ j. step_of (λ start n. leaf 0 (prefix (base + start) n (d j)) none) (pick (t j) (body (i + 1) (c j)) None))
       ∙ ap (λ (k : ℕ). entry (i + 1 + m) (leaf 0 (prefix k m p.bits) none)) e
 
   prefix-turn : items_from (prefix_step base s) (length s) i ≡ leaf 0 (prefix (base + i + 1) m p.bits) none ⊕ items_from (prefix_step base s) (length s) (i + 1 + m)
@@ -116,7 +116,7 @@ module _ (base : ℕ) (s : List ℕ) (e : Reach) (rest : List ℕ) (i : ℕ) (w 
   len_is : k < 65536 → nlri_len s i ≡ k
   len_is h = ap (λ (n : ℕ). at16 s (i + 2 + n)) id-len ∙ two_at s (i + 2 + d) k (laid ++ rest) h from-len
 
-  found : k < 65536 → i + 7 ≤ length s → nlri_at s i ≡ Body (i + 4 + d) k
+  found : k < 65536 → i + 7 ≤ length s → nlri_at s i ≡ body (i + 4 + d) k
   unfolding nlri_at
   found h l =
       let a : nlri_addresses s i ≡ i + 4 + d = addresses-is in
@@ -124,7 +124,7 @@ module _ (base : ℕ) (s : List ℕ) (e : Reach) (rest : List ℕ) (i : ℕ) (w 
       let x : leb (i + 7) (length s) ≡ true = le-leb (i + 7) (length s) l in
       let y : leb (nlri_addresses s i) (length s) ≡ true = le-leb (nlri_addresses s i) (length s) (omega (arith, a, entry-long)) in
       let z : leb (nlri_addresses s i + nlri_len s i) (length s) ≡ true = le-leb (nlri_addresses s i + nlri_len s i) (length s) (omega (arith, a, c, entry-long)) in
-      λ j. pick (x j) (pick (y j) (pick (z j) (Body (a j) (c j)) Stop) Stop) Stop
+      λ j. pick (x j) (pick (y j) (pick (z j) (body (a j) (c j)) None) None) None
 
   clnp_is : is_clnp s i ≡ clnp_reach e
   clnp_is =
@@ -156,7 +156,7 @@ module _ (base : ℕ) (s : List ℕ) (e : Reach) (rest : List ℕ) (i : ℕ) (w 
 short-stop : (base : ℕ) (s : List ℕ) (i : ℕ) → length s < i + 7 → nlri_step base s i ≡ stop
 unfolding nlri_at
 short-stop base s i h =
-    ap (λ (b : Bool). step_of (λ start n. nlri base s i start n) (pick b (pick (leb (nlri_addresses s i) (length s)) (pick (leb (nlri_addresses s i + nlri_len s i) (length s)) (Body (nlri_addresses s i) (nlri_len s i)) Stop) Stop) Stop)) (lt-leb (i + 7) (length s) h)
+    ap (λ (b : Bool). step_of (λ start n. nlri base s i start n) (pick b (pick (leb (nlri_addresses s i) (length s)) (pick (leb (nlri_addresses s i + nlri_len s i) (length s)) (body (nlri_addresses s i) (nlri_len s i)) None) None) None)) (lt-leb (i + 7) (length s) h)
 
 module _ (base : ℕ) (s : List ℕ) where
   abbrev walk : ℕ → Items

@@ -1,4 +1,5 @@
 -- How many cells a BISPDU's record has at most, so that an output with that many is never short.
+use Rattle.std.specs.Prelude.{Option, Some, None}
 use Prim.Native.Nat.{ℕ, zero, suc, ◌+◌, ◌*◌, ◌-◌, ◌≤◌, ◌<◌}
 use mathlib.Core.Path.{◌≡◌, refl, sym, ap, subst, ◌∙◌}
 use mathlib.Core.List.{List, [], ◌++◌}
@@ -17,9 +18,8 @@ use Rattle.names.specs.Numbers.{k_protocol, k_payload_len, k_bispdu_len, k_type,
 use Rattle.codes.specs.Codes.{text_in, idrp_types, idrp_errors, error_subcodes, idrp_attributes}
 use Rattle.cells.specs.Items.{Items, none, leaf, group, number, flag, text, part, prefix, word, record_of, in_list, ◌⊕◌, flat}
 use Rattle.cells.specs.Answer.{number_of, answer_to}
-use Rattle.cells.specs.Walk.{Step, step_of, items_from}
-use Rattle.cells.specs.declared.entry.Entry.{Entry}
-use Rattle.cells.specs.declared.entry.Entry.TheVariants.{Stop, Body}
+use Rattle.cells.specs.Walk.{body, Step, step_of, items_from}
+use Rattle.cells.specs.declared.entry.Body.{Body}
 use Rattle.cells.proofs.Rows.{group-size, in_list_thin}
 use Rattle.cells.proofs.Walks.{Thin, thin-from, fuse, flat_walk}
 use Rattle.cells.proofs.Answers.{enough, readable}
@@ -62,10 +62,10 @@ attribute-thin d base s t i n =
     let c : Items = attribute_value base s t i n in
     omega (arith, group-size d true 0 (a ⊕ (b ⊕ c)), rows (d + 1) a (b ⊕ c), rows (d + 1) b c, one (d + 1) k_type x, one (d + 1) k_type_code (number t), value-thin (d + 1) base s t i n)
 
-attribute-step : (d base : ℕ) (s : List ℕ) (i : ℕ) (e : Entry) → Attribute s i e
+attribute-step : (d base : ℕ) (s : List ℕ) (i : ℕ) (e : Option Body) → Attribute s i e
     → Thin (attribute_step base s) (size d) 2 (length s) i (step_of (λ start n. attribute base s (get_or s (i + 1) 0) start n) e)
-attribute-step d base s i Stop w = tt
-attribute-step d base s i (Body start n) w = (omega (arith, w.0), w.2, omega (arith, w.0, attribute-thin d base s (get_or s (i + 1) 0) start n))
+attribute-step d base s i None w = tt
+attribute-step d base s i (Some b) w = (omega (arith, w.0), w.2, omega (arith, w.0, attribute-thin d base s (get_or s (i + 1) 0) b.start b.len))
 
 pub attributes-thin : (d base : ℕ) (s : List ℕ) → size d (attribute_items base s) ≤ 2 * (length s - attributes_from s)
 attributes-thin d base s =
@@ -77,10 +77,10 @@ attributes_member_lem d base s =
     (λ h. omega (arith, group-size d false k_path_attributes (attribute_items base s), attributes-thin (d + 1) base s))
 
 -- ---- NLRI
-prefix-step : (d base : ℕ) (s : List ℕ) (i : ℕ) (e : Entry) → Prefix s i e
+prefix-step : (d base : ℕ) (s : List ℕ) (i : ℕ) (e : Option Body) → Prefix s i e
     → Thin (prefix_step base s) (size d) 1 (length s) i (step_of (λ start n. leaf 0 (prefix (base + start) n (get_or s i 0)) none) e)
-prefix-step d base s i Stop w = tt
-prefix-step d base s i (Body start n) w = (omega (arith, w.0), w.2, omega (arith, w.0, one d 0 (prefix (base + start) n (get_or s i 0))))
+prefix-step d base s i None w = tt
+prefix-step d base s i (Some b) w = (omega (arith, w.0), w.2, omega (arith, w.0, one d 0 (prefix (base + b.start) b.len (get_or s i 0))))
 
 pub prefixes-thin : (d base : ℕ) (s : List ℕ) → size d (prefix_items base s) ≤ length s
 prefixes-thin d base s = omega (arith, items-thin d 1 (prefix_step base s) (length s) 0 (λ i h. prefix-step d base s i (prefix_at s i) (prefix-whole s i)))
@@ -96,10 +96,10 @@ nlri-thin d base s i start n =
     let l : length t ≤ n = omega (arith, length-take n (drop start s), min-le_left n (length (drop start s))) in
     omega (arith, l, group-size d true 0 (a ⊕ (b ⊕ c)), rows (d + 1) a (b ⊕ c), rows (d + 1) b c, one (d + 1) k_proto_type (number (get_or s i 0)), one (d + 1) k_clnp v, group-size (d + 1) false k_prefixes p, prefixes-thin (d + 1 + 1) (base + start) t)
 
-nlri-step : (d base : ℕ) (s : List ℕ) (i : ℕ) (e : Entry) → Nlri s i e
+nlri-step : (d base : ℕ) (s : List ℕ) (i : ℕ) (e : Option Body) → Nlri s i e
     → Thin (nlri_step base s) (size d) 2 (length s) i (step_of (λ start n. nlri base s i start n) e)
-nlri-step d base s i Stop w = tt
-nlri-step d base s i (Body start n) w = (omega (arith, w.0), w.2, omega (arith, w.0, nlri-thin d base s i start n))
+nlri-step d base s i None w = tt
+nlri-step d base s i (Some b) w = (omega (arith, w.0), w.2, omega (arith, w.0, nlri-thin d base s i b.start b.len))
 
 pub nlris_thin : (d base : ℕ) (s : List ℕ) → size d (nlri_items base s) ≤ 2 * length s
 nlris_thin d base s =

@@ -1,4 +1,5 @@
 -- Routes and path attributes of an UPDATE that is laid out as ISO/IEC 10747 draws it are read as what was laid out.
+use Rattle.std.specs.Prelude.{None}
 use Prim.Native.Nat.{ℕ, ◌+◌, ◌*◌, ◌-◌, ◌≤◌, ◌<◌}
 use mathlib.Core.Bool.{Bool, true, false, ◌&&◌}
 use mathlib.Core.List.{List, [], ◌∷◌, ◌++◌, append_assoc, append-nil}
@@ -18,8 +19,7 @@ use Rattle.names.specs.Ascii.{octets}
 use Rattle.names.specs.Numbers.{k_type, k_type_code, k_value, k_value_hex}
 use Rattle.codes.specs.Codes.{text_in, idrp_attributes}
 use Rattle.cells.specs.Items.{Items, none, leaf, group, number, text, part, word, ◌⊕◌}
-use Rattle.cells.specs.Walk.{stop, entry, step_of, walk_from, left_from}
-use Rattle.cells.specs.declared.entry.Entry.TheVariants.{Stop, Body}
+use Rattle.cells.specs.Walk.{body, stop, entry, step_of, walk_from, left_from}
 use Rattle.cells.proofs.Walks.{turn, done, over}
 use Rattle.idrp.specs.Update.{at16, withdrawn, route_items, attributes_at, attributes_from, attributes_end, shown, attribute_value, attribute, attribute_at, attribute_step, attribute_items, attributes_place, update_readable}
 use Rattle.idrp.specs.Layout as layout
@@ -62,14 +62,14 @@ module _ (base : ℕ) (s : List ℕ) (a : Attribute) (rest : List ℕ) (i : ℕ)
   count-is : n < 65536 → at16 s (i + 2) ≡ n
   count-is h = two_at s (i + 2) n (a.value ++ rest) h (next s (a.flag ∷ a.type ∷ []) (octets_of 2 n ++ (a.value ++ rest)) i (i + 2) refl w)
 
-  found : (end : ℕ) → n < 65536 → i + 4 < end → attribute_at s end i ≡ Body (i + 4) n
+  found : (end : ℕ) → n < 65536 → i + 4 < end → attribute_at s end i ≡ body (i + 4) n
   unfolding attribute_at
   found end h l =
       let c : at16 s (i + 2) ≡ n = count-is h in
       let t : leb (i + 4 + at16 s (i + 2)) (length s) ≡ true = le-leb (i + 4 + at16 s (i + 2)) (length s) (omega (arith, c, attribute-long)) in
       let x : ltb (i + 4) end ≡ true = lt-ltb (i + 4) end l in
       let y : leb (i + 4) (length s) ≡ true = le-leb (i + 4) (length s) (omega (arith, attribute-long)) in
-      λ j. pick (x j) (pick (y j) (pick (t j) (Body (i + 4) (c j)) Stop) Stop) Stop
+      λ j. pick (x j) (pick (y j) (pick (t j) (body (i + 4) (c j)) None) None) None
 
   value-is : attribute_value base s a.type (i + 4) n ≡ value_read (base + i + 4) a
   value-is =
@@ -101,7 +101,7 @@ module _ (base : ℕ) (s : List ℕ) {R : Type 0} (ends : ℕ → R) (more : Ite
 
   halt : (i : ℕ) → attributes_end s ≤ i + 4 → attribute_step base s i ≡ stop
   unfolding attribute_at
-  halt i h = ap (λ (b : Bool). step_of (λ start n. attribute base s (get_or s (i + 1) 0) start n) (pick b (pick (leb (i + 4) (length s)) (pick (leb (i + 4 + at16 s (i + 2)) (length s)) (Body (i + 4) (at16 s (i + 2))) Stop) Stop) Stop)) (le-ltb (i + 4) (attributes_end s) h)
+  halt i h = ap (λ (b : Bool). step_of (λ start n. attribute base s (get_or s (i + 1) 0) start n) (pick b (pick (leb (i + 4) (length s)) (pick (leb (i + 4 + at16 s (i + 2)) (length s)) (body (i + 4) (at16 s (i + 2))) None) None) None)) (le-ltb (i + 4) (attributes_end s) h)
 
   ended : (i : ℕ) → attributes_end s ≤ i + 4 → walk i ≡ P i []
   ended i h = elim (dec_le (length s) i) [

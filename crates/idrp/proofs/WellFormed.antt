@@ -1,4 +1,5 @@
 -- The cells of every BISPDU read back as its record.
+use Rattle.std.specs.Prelude.{Option, Some, None}
 use Prim.Native.Nat.{ℕ, zero, suc, ◌+◌, ◌≤◌, ◌<◌}
 use mathlib.Core.Path.{◌≡◌, refl}
 use mathlib.Core.List.{List, []}
@@ -18,9 +19,8 @@ use Rattle.codes.proofs.Lows.{text-low}
 use Rattle.cells.specs.Items.{Items, none, leaf, prefix, ◌⊕◌}
 use Rattle.cells.specs.Read.{items_of}
 use Rattle.cells.specs.Good.{GoodRow, Good}
-use Rattle.cells.specs.Walk.{step_of}
-use Rattle.cells.specs.declared.entry.Entry.{Entry}
-use Rattle.cells.specs.declared.entry.Entry.TheVariants.{Stop, Body}
+use Rattle.cells.specs.Walk.{body, step_of}
+use Rattle.cells.specs.declared.entry.Body.{Body}
 use Rattle.cells.proofs.Rows.{good-⊕, good_in_list}
 use Rattle.cells.proofs.Walks.{Each, all_from}
 use Rattle.cells.proofs.WellFormed.{reads-back}
@@ -55,12 +55,12 @@ module _ (n base : ℕ) (s : List ℕ) (small : Octets s) (within : base + lengt
   abbrev good : Items → Type 0
   good c = GoodRow n false 3 c
 
-  each-attribute : (i : ℕ) (e : Entry) → Attribute s i e
+  each-attribute : (i : ℕ) (e : Option Body) → Attribute s i e
       → Each (attribute_step base s) (λ k. none) ◌⊕◌ (length s) good good (λ k. tt) (λ c r q g. good-⊕ n false 3 c r q g) (step_of (λ start len. attribute base s (get_or s (i + 1) 0) start len) e)
-  each-attribute i Stop w = tt
-  each-attribute i (Body start len) w =
+  each-attribute i None w = tt
+  each-attribute i (Some b) w =
       let t = get_or s (i + 1) 0 in
-      (omega arith, refl, (omega arith, (omega arith, omega arith), attribute-listed t, (omega arith, (omega arith, omega arith), one-low s small (i + 1), value-good t start len w.2)), tt)
+      (omega arith, refl, (omega arith, (omega arith, omega arith), attribute-listed t, (omega arith, (omega arith, omega arith), one-low s small (i + 1), value-good t b.start b.len w.2)), tt)
 
   pub attributes-good : GoodRow n false 3 (attribute_items base s)
   attributes-good =
@@ -70,10 +70,10 @@ module _ (n base : ℕ) (s : List ℕ) (small : Octets s) (within : base + lengt
   abbrev fine : Items → Type 0
   fine c = GoodRow n false 5 c
 
-  each-prefix : (i : ℕ) (e : Entry) → Prefix s i e
+  each-prefix : (i : ℕ) (e : Option Body) → Prefix s i e
       → Each (prefix_step base s) (λ k. none) ◌⊕◌ (length s) fine fine (λ k. tt) (λ c r q g. good-⊕ n false 5 c r q g) (step_of (λ start len. leaf 0 (prefix (base + start) len (get_or s i 0)) none) e)
-  each-prefix i Stop w = tt
-  each-prefix i (Body start len) w = (omega arith, refl, (small i, w.1, omega (arith, within, w.2)), tt)
+  each-prefix i None w = tt
+  each-prefix i (Some b) w = (omega arith, refl, (small i, w.1, omega (arith, within, w.2)), tt)
 
   pub prefixes-good : GoodRow n false 5 (prefix_items base s)
   prefixes-good =
@@ -83,12 +83,12 @@ module _ (n base : ℕ) (s : List ℕ) (small : Octets s) (within : base + lengt
   abbrev sound : Items → Type 0
   sound c = GoodRow n false 3 c
 
-  each-nlri : (i : ℕ) (e : Entry) → Nlri s i e
+  each-nlri : (i : ℕ) (e : Option Body) → Nlri s i e
       → Each (nlri_step base s) (λ k. none) ◌⊕◌ (length s) sound sound (λ k. tt) (λ c r q g. good-⊕ n false 3 c r q g) (step_of (λ start len. nlri base s i start len) e)
-  each-nlri i Stop w = tt
-  each-nlri i (Body start len) w =
-      let t : List ℕ = take len (drop start s) in
-      let l : base + start + length t ≤ n = omega (arith, within, w.2, length-take len (drop start s), min-le_left len (length (drop start s))) in
+  each-nlri i None w = tt
+  each-nlri i (Some b) w =
+      let t : List ℕ = take b.len (drop b.start s) in
+      let l : base + b.start + length t ≤ n = omega (arith, within, w.2, length-take b.len (drop b.start s), min-le_left b.len (length (drop b.start s))) in
       let v : pick (is_clnp s i) 1 0 < 2 = pick_elim (λ (k : ℕ). k < 2) (is_clnp s i) (λ e. omega arith) (λ e. omega arith) in (
         omega arith,
         refl,
@@ -100,7 +100,7 @@ module _ (n base : ℕ) (s : List ℕ) (small : Octets s) (within : base + lengt
             omega arith,
             (omega arith, omega arith),
             v,
-            (omega arith, (omega arith, omega arith), prefixes-good n (base + start) t (take-small len (drop start s) (drop-small start s small)) l, tt),
+            (omega arith, (omega arith, omega arith), prefixes-good n (base + b.start) t (take-small b.len (drop b.start s) (drop-small b.start s small)) l, tt),
           ),
         ),
         tt,

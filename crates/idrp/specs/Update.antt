@@ -1,14 +1,13 @@
 -- The body of an UPDATE: `parse_idrp_update`.
-use Rattle.std.specs.Prelude.{ℕ, zero, suc, ◌+◌, ◌-◌, ◌*◌, ◌/◌, Bool, true, false, ◌&&◌, ◌||◌, List, ltb, leb, eqb, length, get_or, take, drop}
+use Rattle.std.specs.Prelude.{ℕ, zero, suc, ◌+◌, ◌-◌, ◌*◌, ◌/◌, Bool, true, false, ◌&&◌, ◌||◌, Option, None, List, ltb, leb, eqb, length, get_or, take, drop}
 use Rattle.octets.specs.Text.{pick}
 use Rattle.octets.specs.Read.{be16, be32}
 use Rattle.names.specs.Ascii.{octets}
 use Rattle.names.specs.Numbers.{k_withdrawn_routes, k_path_attributes, k_type, k_type_code, k_value, k_value_hex, k_nlri, k_proto_type, k_clnp, k_prefixes}
 use Rattle.codes.specs.Codes.{text_in, idrp_attributes}
 use Rattle.cells.specs.Items.{Items, none, leaf, group, number, flag, text, part, prefix, word, in_list, ◌⊕◌}
-use Rattle.cells.specs.Walk.{Step, step_of, items_from, left_from}
-use Rattle.cells.specs.declared.entry.Entry.{Entry}
-use Rattle.cells.specs.declared.entry.Entry.TheVariants.{Stop, Body}
+use Rattle.cells.specs.Walk.{Step, step_of, body, items_from, left_from}
+use Rattle.cells.specs.declared.entry.Body.{Body}
 
 -- two octets at p
 abbrev pub at16 : List ℕ → ℕ → ℕ
@@ -46,10 +45,10 @@ attribute base s t i n =
     group true 0 (leaf k_type (text (text_in idrp_attributes (octets "unknown") t)) none ⊕ (leaf k_type_code (number t) none ⊕ attribute_value base s t i n)) none
 
 -- an attribute at i, whose value may run past the attributes' end but not past the body's
-unfoldable pub attribute_at : List ℕ → ℕ → ℕ → Entry
+unfoldable pub attribute_at : List ℕ → ℕ → ℕ → Option Body
 attribute_at s end i =
     pick (ltb (i + 4) end)
-    (pick (leb (i + 4) (length s)) (pick (leb (i + 4 + at16 s (i + 2)) (length s)) (Body (i + 4) (at16 s (i + 2))) Stop) Stop) Stop
+    (pick (leb (i + 4) (length s)) (pick (leb (i + 4 + at16 s (i + 2)) (length s)) (body (i + 4) (at16 s (i + 2))) None) None) None
 
 abbrev pub attribute_step : ℕ → List ℕ → ℕ → Step Items
 attribute_step base s i = step_of (λ start n. attribute base s (get_or s (i + 1) 0) start n) (attribute_at s (attributes_end s) i)
@@ -62,8 +61,8 @@ abbrev pub attributes_place : List ℕ → ℕ
 attributes_place s = length s - left_from (attribute_step 0 s) (length s) (attributes_from s)
 
 -- ---- NLRI: entries up to the first that is not whole
-abbrev pub prefix_at : List ℕ → ℕ → Entry
-prefix_at s i = pick (leb (i + 1 + (get_or s i 0 + 7) / 8) (length s)) (Body (i + 1) ((get_or s i 0 + 7) / 8)) Stop
+abbrev pub prefix_at : List ℕ → ℕ → Option Body
+prefix_at s i = pick (leb (i + 1 + (get_or s i 0 + 7) / 8) (length s)) (body (i + 1) ((get_or s i 0 + 7) / 8)) None
 
 abbrev pub prefix_step : ℕ → List ℕ → ℕ → Step Items
 prefix_step base s i = step_of (λ start n. leaf 0 (prefix (base + start) n (get_or s i 0)) none) (prefix_at s i)
@@ -78,11 +77,11 @@ nlri_addresses s i = i + 4 + get_or s (i + 1) 0
 abbrev pub nlri_len : List ℕ → ℕ → ℕ
 nlri_len s i = at16 s (i + 2 + get_or s (i + 1) 0)
 
-unfoldable pub nlri_at : List ℕ → ℕ → Entry
+unfoldable pub nlri_at : List ℕ → ℕ → Option Body
 nlri_at s i =
     pick (leb (i + 7) (length s))
     (pick (leb (nlri_addresses s i) (length s))
-    (pick (leb (nlri_addresses s i + nlri_len s i) (length s)) (Body (nlri_addresses s i) (nlri_len s i)) Stop) Stop) Stop
+    (pick (leb (nlri_addresses s i + nlri_len s i) (length s)) (body (nlri_addresses s i) (nlri_len s i)) None) None) None
 
 abbrev pub is_clnp : List ℕ → ℕ → Bool
 is_clnp s i = eqb (get_or s i 0) 1 && (eqb (get_or s (i + 1) 0) 1 && eqb (get_or s (i + 2) 0) 0x81)

@@ -1,13 +1,15 @@
 // The path attributes of an UPDATE.
-ghost use Rattle.std.specs.Prelude.{◌≡◌, ◌&&◌, ◌+◌, ◌<◌, ◌≤◌, eqb, length};
+ghost use Rattle.std.specs.Prelude.{◌≡◌, ◌&&◌, ◌+◌, ◌<◌, ◌≤◌, IfSome, eqb, length, get_or, refl};
 ghost use Rattle.octets.specs.Emit.{Emits};
 ghost use Rattle.cells.specs.Items.{flat};
 ghost use Rattle.idrp.specs.Update.{attributes_at, attributes_end, shown as shownOf, attribute_value, attribute, attribute_at, attribute_items, attributes_place, attributes_member};
 
 use crate::octet::two_at;
 use cells::emit::{close_group, open_list, open_object, put_hex_part, put_number, put_text_number};
-use cells::entry::Entry;
+use cells::entry::Body;
+use cells::walk::{Entries, put_entries};
 use codes::idrp_attr_name;
+use fields::part::Part;
 use names::key::{PATH_ATTRIBUTES, TYPE, TYPE_CODE, VALUE, VALUE_HEX};
 
 // The place of the attributes' length, behind the withdrawn routes.
@@ -28,24 +30,19 @@ pub fn attributes_end(s: &[u8], p: usize) -> usize
 }
 
 // What stands at position i: the value may run past the attributes' end, but not past the body's.
-fn attribute_at(s: &[u8], end: usize, i: usize) -> Entry
+#[tactic(auto, unfolding(crate::specs::Update::attribute_at))]
+fn attribute_at(s: &[u8], end: usize, i: usize) -> Option<Body>
     requires { i ≤ length s.now }
-    ensures { result ≡ attribute_at s.now end i }
+    ensures value { result ≡ attribute_at s.now end i }
+    ensures within { IfSome result (λ b. (i < b.start + b.len) × (b.start + b.len ≤ length s.now)) }
 {
-    if i + 4 < end {
-        if i + 4 <= s.len() {
-            let n = two_at(s, i + 2);
-            if i + 4 + n <= s.len() {
-                return Entry::Body {
-                    start: i + 4,
-                    len: n,
-                };
-            }
-            return Entry::Stop;
+    if i + 4 < end && i + 4 <= s.len() {
+        let len = two_at(s, i + 2);
+        if i + 4 + len <= s.len() {
+            return Some(Body { start: i + 4, len });
         }
-        return Entry::Stop;
     }
-    Entry::Stop
+    None
 }
 
 // The place behind the last attribute.
@@ -54,14 +51,13 @@ pub fn attributes_place(s: &[u8], p: usize) -> usize
     ensures { (result ≡ attributes_place s.now) × (result ≤ length s.now) }
 {
     let end = attributes_end(s, p);
+    // No `for`: where an attribute begins, the one before it says.
     let mut place = p + 2;
     while place < s.len() {
-        match attribute_at(s, end, place) {
-            Entry::Stop => return place,
-            Entry::Body { start, len } => {
-                place = start + len;
-            }
-        }
+        let Some(b) = attribute_at(s, end, place) else {
+            return place;
+        };
+        place = b.start + b.len;
     }
     place
 }
@@ -70,90 +66,88 @@ pub fn attributes_place(s: &[u8], p: usize) -> usize
 fn shown(t: u8) -> bool
     ensures { result ≡ shownOf t }
 {
-    if 7 <= t {
-        if t <= 10 {
-            return true;
-        }
-        if t == 13 {
-            return true;
-        }
-        return t == 16;
-    }
-    false
+    matches!(t, 7..=10 | 13 | 16)
 }
 
 fn numbered(t: u8, n: usize) -> bool
     ensures { result ≡ (shownOf t && eqb n 1) }
 {
-    if shown(t) {
-        return n == 1;
-    }
-    false
+    shown(t) && n == 1
 }
 
 // The value of n octets at place i of a body that stands at place base of the input.
-fn put_value(out: &mut [u64], at: usize, base: usize, s: &[u8], t: u8, i: usize, n: usize) -> usize
-    requires { (i + n ≤ length s.now) × (base + length s.now < 65536) }
-    ensures { Emits out.old at (flat 4 (attribute_value base s.now t i n)) out.new result }
+fn put_value(out: &mut [u64], at: usize, body: Part, t: u8, b: Body) -> usize
+    requires { b.start + b.len ≤ length body.octets.now }
+    ensures { Emits out.old at (flat 4 (attribute_value body.entry.base body.entry.octets.now t b.start b.len)) out.new result }
 {
-    if numbered(t, n) {
-        return put_number(out, at, 4, VALUE, s[i] as u32);
+    if numbered(t, b.len) {
+        put_number(out, at, 4, VALUE, body.octets[b.start] as u32)
+    } else if 0 < b.len {
+        put_hex_part(out, at, 4, VALUE_HEX, body.base + b.start, b.len)
+    } else {
+        at
     }
-    if 0 < n {
-        return put_hex_part(out, at, 4, VALUE_HEX, base + i, n);
-    }
-    at
 }
 
-fn put_attribute(
-    out: &mut [u64],
-    at: usize,
-    base: usize,
-    s: &[u8],
-    t: u8,
-    i: usize,
-    n: usize,
-) -> usize
-    requires { (i + n ≤ length s.now) × (base + length s.now < 65536) }
-    ensures { Emits out.old at (flat 3 (attribute base s.now t i n)) out.new result }
+fn put_attribute(out: &mut [u64], at: usize, body: Part, t: u8, b: Body) -> usize
+    requires { b.start + b.len ≤ length body.octets.now }
+    ensures { Emits out.old at (flat 3 (attribute body.entry.base body.entry.octets.now t b.start b.len)) out.new result }
 {
     let opened = open_object(out, at, 3, 0);
     let typed = put_text_number(out, opened, 4, TYPE, idrp_attr_name(t));
     let coded = put_number(out, typed, 4, TYPE_CODE, t as u32);
-    let valued = put_value(out, coded, base, s, t, i, n);
+    let valued = put_value(out, coded, body, t, b);
     close_group(out, valued, 3)
 }
 
-// The attributes of a body that stands at place base of the input; their length is at p.
-fn attributes(out: &mut [u64], at: usize, base: usize, s: &[u8], p: usize) -> usize
-    requires { (p ≡ attributes_at s.now) × (p + 2 ≤ length s.now) × (base + length s.now < 65536) }
-    ensures { Emits out.old at (flat 3 (attribute_items base s.now)) out.new result }
-{
-    let end = attributes_end(s, p);
-    let mut i = p + 2;
-    let mut next = at;
-    while i < s.len() {
-        match attribute_at(s, end, i) {
-            Entry::Stop => return next,
-            Entry::Body { start, len } => {
-                next = put_attribute(out, next, base, s, s[i + 1], start, len);
-                i = start + len;
-            }
-        }
-    }
-    next
+// Their length says where they end.
+#[derive(Clone, Copy)]
+struct Attributes<'a> {
+    body: Part<'a>,
+    end: usize,
+    ghost ends: { end ≡ attributes_end body.octets.now },
 }
 
-// As a member, which is left out where their length is 0.
+impl Entries for Attributes<'_> {
+    ghost size = { λ a. length a.body.octets.now };
+
+    ghost depth = { λ a. 2 };
+
+    ghost body = { λ a. attribute_at a.body.octets.now (attributes_end a.body.octets.now) };
+
+    ghost items = { λ a i start n. attribute a.body.base a.body.octets.now (get_or a.body.octets.now (i + 1) 0) start n };
+
+    ghost listed = { λ a i start n f xs. refl };
+
+    fn len(&self) -> usize {
+        self.body.octets.len()
+    }
+
+    fn level(&self) -> u8 {
+        2
+    }
+
+    fn body_at(&self, i: usize) -> Option<Body> {
+        attribute_at(self.body.octets, self.end, i)
+    }
+
+    fn put_entry(&self, out: &mut [u64], at: usize, i: usize, b: Body) -> usize {
+        put_attribute(out, at, self.body, self.body.octets[i + 1], b)
+    }
+}
+
+// The attributes of a body that stands at place base of the input, whose length is at p, as a member, which is left out where
+// their length is 0.
 pub fn put_attributes(out: &mut [u64], at: usize, base: usize, s: &[u8], p: usize) -> usize
     requires { (p ≡ attributes_at s.now) × (p + 2 ≤ length s.now) × (base + length s.now < 65536) }
     ensures { Emits out.old at (flat 2 (attributes_member base s.now)) out.new result }
 {
-    let n = two_at(s, p);
-    if n == 0 {
+    if two_at(s, p) == 0 {
         return at;
     }
+    let end = attributes_end(s, p);
+    let body = Part { base, octets: s };
     let opened = open_list(out, at, 2, PATH_ATTRIBUTES);
-    let shown = attributes(out, opened, base, s, p);
+    let shown = put_entries(&Attributes { body, end }, out, opened, p + 2);
     close_group(out, shown, 2)
 }

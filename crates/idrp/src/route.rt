@@ -13,13 +13,9 @@ fn routes(out: &mut [u64], at: usize, s: &[u8], n: usize) -> usize
     requires { 2 + 4 * n ≤ length s.now }
     ensures { Emits out.old at (flat 3 (route_items s.now n 2)) out.new result }
 {
-    let mut left = n;
-    let mut i: usize = 2;
     let mut next = at;
-    while 0 < left {
-        next = put_word_leaf(out, next, 3, 0, four_at(s, i));
-        i = i + 4;
-        left = left - 1;
+    for k in 0..n {
+        next = put_word_leaf(out, next, 3, 0, four_at(s, 2 + 4 * k));
     }
     next
 }

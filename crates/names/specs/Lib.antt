@@ -1,5 +1,4 @@
 pub mod Ascii
-pub mod Bars
 pub mod Place
 pub mod Keys
 pub mod Texts

@@ -1,9 +1,9 @@
 // JSON keys by field number.
-ghost use Rattle.std.specs.Prelude.{◌≤◌, ◌<◌};
+ghost use Rattle.std.specs.Prelude.{◌≡◌};
 ghost use Rattle.octets.specs.Emit.{Emits};
 ghost use Rattle.names.specs.Keys.{key_text};
 
-use crate::nth::put_nth;
+use octets::emit::put_octets;
 
 pub const LCN: u8 = 1;
 
@@ -188,98 +188,110 @@ pub const TSDU_SEGMENT: u8 = 90;
 // The largest field number.
 pub const LAST: u8 = 90;
 
-fn put_x25_keys(out: &mut [u8], at: usize, n: usize) -> usize
-    requires { (1 ≤ n) × (n < 12) }
-    ensures { Emits out.old at (key_text n) out.new result }
+// The key of a field number; nothing for a number that is no key's.
+#[tactic(auto, unfolding(crate::specs::Keys::keys))]
+fn key(number: u8) -> &'static [u8]
+    ensures { result.now ≡ key_text number }
 {
-    let starts = [0u16, 4, 9, 12, 15, 20, 26, 37, 48, 64, 75, 81];
-    let all = b"lcn|kind|ps|pr|more|cause|cause_text|diagnostic|diagnostic_text|facilities|sndcf|";
-    put_nth(out, at, all, &starts, n - 1)
-}
-
-fn put_network_keys(out: &mut [u8], at: usize, n: usize) -> usize
-    requires { (12 ≤ n) × (n < 21) }
-    ensures { Emits out.old at (key_text n) out.new result }
-{
-    let starts = [0u16, 9, 15, 27, 32, 47, 57, 65, 75, 85];
-    let all =
-        b"protocol|first|payload_len|type|holding_time_s|addresses|options|type_code|value_hex|";
-    put_nth(out, at, all, &starts, n - 12)
-}
-
-fn put_idrp_keys(out: &mut [u8], at: usize, n: usize) -> usize
-    requires { (21 ≤ n) × (n < 43) }
-    ensures { Emits out.old at (key_text n) out.new result }
-{
-    let starts = [
-        0u16, 11, 20, 24, 39, 52, 57, 64, 75, 81, 95, 114, 122, 134, 147, 155, 172, 178, 194, 205,
-        210, 219, 224,
-    ];
-    let all =
-        b"bispdu_len|sequence|ack|credit_offered|credit_avail|open|update|error_code|error|error_subcode|error_subcode_text|version|hold_time_s|max_pdu_size|src_rdi|withdrawn_routes|value|path_attributes|proto_type|clnp|prefixes|nlri|";
-    put_nth(out, at, all, &starts, n - 21)
-}
-
-fn put_options_keys(out: &mut [u8], at: usize, n: usize) -> usize
-    requires { (43 ≤ n) × (n < 65) }
-    ensures { Emits out.old at (key_text n) out.new result }
-{
-    let starts = [
-        0u16, 20, 38, 50, 55, 62, 70, 79, 90, 100, 112, 136, 144, 157, 166, 179, 186, 195, 200,
-        209, 216, 232, 247,
-    ];
-    let all =
-        b"compression_options|compression_algos|maintenance|code|params|tag_set|class_id|class_name|subnet_id|subnet_name|permitted_traffic_types|classes|traffic_type|category|route_policy|reg_id|sec_info|name|priority|reason|security_format|security_label|";
-    put_nth(out, at, all, &starts, n - 43)
-}
-
-fn put_clnp_keys(out: &mut [u8], at: usize, n: usize) -> usize
-    requires { (65 ≤ n) × (n < 76) }
-    ensures { Emits out.old at (key_text n) out.new result }
-{
-    let starts = [0u16, 15, 23, 32, 41, 54, 68, 75, 90, 100, 110, 115];
-    let all =
-        b"lifetime_500ms|seg_len|dst_nsap|src_nsap|error_report|more_segments|pdu_id|segment_offset|total_len|segmented|cotp|";
-    put_nth(out, at, all, &starts, n - 65)
-}
-
-fn put_cotp_keys(out: &mut [u8], at: usize, n: usize) -> usize
-    requires { (76 ≤ n) × (n < 91) }
-    ensures { Emits out.old at (key_text n) out.new result }
-{
-    let starts = [
-        0u16, 10, 15, 23, 31, 37, 49, 62, 80, 84, 88, 97, 104, 113, 127, 140,
-    ];
-    let all =
-        b"tpdu_size|tpdu|dst_ref|src_ref|class|reason_text|reject_cause|reject_cause_text|roa|eot|tpdu_seq|credit|extended|user_data_len|tsdu_segment|";
-    put_nth(out, at, all, &starts, n - 76)
+    match number {
+        0 => b"",
+        1 => b"lcn",
+        2 => b"kind",
+        3 => b"ps",
+        4 => b"pr",
+        5 => b"more",
+        6 => b"cause",
+        7 => b"cause_text",
+        8 => b"diagnostic",
+        9 => b"diagnostic_text",
+        10 => b"facilities",
+        11 => b"sndcf",
+        12 => b"protocol",
+        13 => b"first",
+        14 => b"payload_len",
+        15 => b"type",
+        16 => b"holding_time_s",
+        17 => b"addresses",
+        18 => b"options",
+        19 => b"type_code",
+        20 => b"value_hex",
+        21 => b"bispdu_len",
+        22 => b"sequence",
+        23 => b"ack",
+        24 => b"credit_offered",
+        25 => b"credit_avail",
+        26 => b"open",
+        27 => b"update",
+        28 => b"error_code",
+        29 => b"error",
+        30 => b"error_subcode",
+        31 => b"error_subcode_text",
+        32 => b"version",
+        33 => b"hold_time_s",
+        34 => b"max_pdu_size",
+        35 => b"src_rdi",
+        36 => b"withdrawn_routes",
+        37 => b"value",
+        38 => b"path_attributes",
+        39 => b"proto_type",
+        40 => b"clnp",
+        41 => b"prefixes",
+        42 => b"nlri",
+        43 => b"compression_options",
+        44 => b"compression_algos",
+        45 => b"maintenance",
+        46 => b"code",
+        47 => b"params",
+        48 => b"tag_set",
+        49 => b"class_id",
+        50 => b"class_name",
+        51 => b"subnet_id",
+        52 => b"subnet_name",
+        53 => b"permitted_traffic_types",
+        54 => b"classes",
+        55 => b"traffic_type",
+        56 => b"category",
+        57 => b"route_policy",
+        58 => b"reg_id",
+        59 => b"sec_info",
+        60 => b"name",
+        61 => b"priority",
+        62 => b"reason",
+        63 => b"security_format",
+        64 => b"security_label",
+        65 => b"lifetime_500ms",
+        66 => b"seg_len",
+        67 => b"dst_nsap",
+        68 => b"src_nsap",
+        69 => b"error_report",
+        70 => b"more_segments",
+        71 => b"pdu_id",
+        72 => b"segment_offset",
+        73 => b"total_len",
+        74 => b"segmented",
+        75 => b"cotp",
+        76 => b"tpdu_size",
+        77 => b"tpdu",
+        78 => b"dst_ref",
+        79 => b"src_ref",
+        80 => b"class",
+        81 => b"reason_text",
+        82 => b"reject_cause",
+        83 => b"reject_cause_text",
+        84 => b"roa",
+        85 => b"eot",
+        86 => b"tpdu_seq",
+        87 => b"credit",
+        88 => b"extended",
+        89 => b"user_data_len",
+        90 => b"tsdu_segment",
+        91.. => b"",
+    }
 }
 
 // The key of a field number, without its quotes; nothing for a number that is no key's.
 pub fn put_key(out: &mut [u8], at: usize, number: u8) -> usize
     ensures { Emits out.old at (key_text number) out.new result }
 {
-    let n = number as usize;
-    if n == 0 {
-        return at;
-    }
-    if n < 12 {
-        return put_x25_keys(out, at, n);
-    }
-    if n < 21 {
-        return put_network_keys(out, at, n);
-    }
-    if n < 43 {
-        return put_idrp_keys(out, at, n);
-    }
-    if n < 65 {
-        return put_options_keys(out, at, n);
-    }
-    if n < 76 {
-        return put_clnp_keys(out, at, n);
-    }
-    if n < 91 {
-        return put_cotp_keys(out, at, n);
-    }
-    at
+    put_octets(out, at, key(number))
 }

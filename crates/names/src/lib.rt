@@ -2,5 +2,4 @@
 #![tactic(auto)]
 
 pub mod key;
-mod nth;
 pub mod text;

@@ -1,9 +1,9 @@
 // Fixed texts by text number.
-ghost use Rattle.std.specs.Prelude.{◌≤◌, ◌<◌};
+ghost use Rattle.std.specs.Prelude.{◌≡◌, ◌≤◌, ◌<◌};
 ghost use Rattle.octets.specs.Emit.{Emits};
 ghost use Rattle.names.specs.Texts.{text_of};
 
-use crate::nth::put_nth;
+use octets::emit::put_octets;
 
 // The texts that no table of codes has.
 pub const QUESTION: u32 = 123;
@@ -107,352 +107,353 @@ pub const RJ: u32 = 288;
 // The largest text number.
 pub const LAST: u32 = 288;
 
-fn put_clear_causes(out: &mut [u8], at: usize, n: usize) -> usize
-    requires { (1 ≤ n) × (n < 13) }
-    ensures { Emits out.old at (text_of n) out.new result }
-{
-    let starts = [0u16, 15, 27, 52, 71, 94, 109, 131, 148, 191, 216, 254, 266];
-    let all =
-        b"DTE originated|Number busy|Invalid facility request|Network congestion|Remote procedure error|Not obtainable|Local procedure error|ROA out of order|Reverse charging acceptance not subscribed|Incompatible destination|Fast select acceptance not subscribed|Ship absent|";
-    put_nth(out, at, all, &starts, n - 1)
-}
-
-fn put_reset_causes(out: &mut [u8], at: usize, n: usize) -> usize
-    requires { (13 ≤ n) × (n < 17) }
-    ensures { Emits out.old at (text_of n) out.new result }
-{
-    let starts = [0u16, 13, 36, 56, 77];
-    let all = b"Out of order|Remote DTE operational|Network operational|Network out of order|";
-    put_nth(out, at, all, &starts, n - 13)
-}
-
-fn put_state_diagnostics(out: &mut [u8], at: usize, n: usize) -> usize
-    requires { (17 ≤ n) × (n < 34) }
-    ensures { Emits out.old at (text_of n) out.new result }
-{
-    let starts = [
-        0u16, 29, 42, 55, 75, 108, 141, 174, 207, 240, 273, 306, 339, 372, 405, 438, 471, 504,
-    ];
-    let all =
-        b"Cleared by system management|Invalid P(S)|Invalid P(R)|Packet type invalid|Packet type invalid for state r1|Packet type invalid for state r2|Packet type invalid for state r3|Packet type invalid for state p1|Packet type invalid for state p2|Packet type invalid for state p3|Packet type invalid for state p4|Packet type invalid for state p5|Packet type invalid for state p6|Packet type invalid for state p7|Packet type invalid for state d1|Packet type invalid for state d2|Packet type invalid for state d3|";
-    put_nth(out, at, all, &starts, n - 17)
-}
-
-fn put_packet_diagnostics(out: &mut [u8], at: usize, n: usize) -> usize
-    requires { (34 ≤ n) × (n < 55) }
-    ensures { Emits out.old at (text_of n) out.new result }
-{
-    let starts = [
-        0u16, 19, 41, 73, 102, 139, 164, 181, 197, 231, 274, 315, 351, 374, 394, 450, 463, 494,
-        528, 562, 598, 631,
-    ];
-    let all =
-        b"Packet not allowed|Unidentifiable packet|Call on one-way logical channel|Invalid packet type on a PVC|Packet on unassigned logical channel|Reject not subscribed to|Packet too short|Packet too long|Invalid general format identifier|Restart packet with non-zero reserved bits|Packet type not compatible with facility|Unauthorized interrupt confirmation|Unauthorized interrupt|Unauthorized reject|TOA/NPI address subscription facility not subscribed to|Time expired|Time expired for incoming call|Time expired for clear indication|Time expired for reset indication|Time expired for restart indication|Time expired for call deflection|";
-    put_nth(out, at, all, &starts, n - 34)
-}
-
-fn put_call_diagnostics(out: &mut [u8], at: usize, n: usize) -> usize
-    requires { (55 ≤ n) × (n < 76) }
-    ensures { Emits out.old at (text_of n) out.new result }
-{
-    let starts = [
-        0u16, 36, 62, 93, 120, 148, 172, 193, 222, 237, 266, 290, 315, 351, 388, 444, 458, 487,
-        505, 532, 544, 557,
-    ];
-    let all =
-        b"Call setup or call clearing problem|Facility code not allowed|Facility parameter not allowed|Invalid called DTE address|Invalid calling DTE address|Invalid facility length|Incoming call barred|No logical channel available|Call collision|Duplicate facility requested|Non-zero address length|Non-zero facility length|Facility not provided when expected|Invalid ITU-T specified DTE facility|Max number of call redirections or deflections exceeded|Miscellaneous|Improper cause code from DTE|Not aligned octet|Inconsistent Q-bit setting|NUI problem|ICRD problem|";
-    put_nth(out, at, all, &starts, n - 55)
-}
-
-fn put_international_diagnostics(out: &mut [u8], at: usize, n: usize) -> usize
-    requires { (76 ≤ n) × (n < 87) }
-    ensures { Emits out.old at (text_of n) out.new result }
-{
-    let starts = [0u16, 22, 45, 76, 108, 132, 165, 197, 227, 253, 273, 292];
-    let all =
-        b"International problem|Remote network problem|International protocol problem|International link out of order|International link busy|Transit network facility problem|Remote network facility problem|International routing problem|Temporary routing problem|Unknown called DNIC|Maintenance action|";
-    put_nth(out, at, all, &starts, n - 76)
-}
-
-fn put_atn_diagnostics(out: &mut [u8], at: usize, n: usize) -> usize
-    requires { (87 ≤ n) × (n < 101) }
-    ensures { Emits out.old at (text_of n) out.new result }
-{
-    let starts = [
-        0u16, 29, 50, 76, 110, 142, 209, 228, 258, 289, 323, 342, 368, 387, 427,
-    ];
-    let all =
-        b"Version number not supported|Invalid length field|Call collision resolution|Proposed directory size too large|LREF cancellation not supported|Received DTE refused, received NET refused or invalid NET selector|Invalid SNCR field|ACA compression not supported|LREF compression not supported|Deflate compression not supported|Idle timer expired|Need to reuse the circuit|System local error|Invalid SEL field value in received NET|";
-    put_nth(out, at, all, &starts, n - 87)
-}
-
-fn put_network_diagnostics(out: &mut [u8], at: usize, n: usize) -> usize
-    requires { (101 ≤ n) × (n < 112) }
-    ensures { Emits out.old at (text_of n) out.new result }
-{
-    let starts = [0u16, 35, 70, 122, 174, 225, 276, 326, 376, 412, 443, 497];
-    let all =
-        b"OSI network disconnect (transient)|OSI network disconnect (permanent)|OSI network reject - reason unspecified (transient)|OSI network reject - reason unspecified (permanent)|OSI network reject - QoS not available (transient)|OSI network reject - QoS not available (permanent)|OSI network reject - NSAP unreachable (transient)|OSI network reject - NSAP unreachable (permanent)|OSI network reset - no reason given|OSI network reset - congestion|OSI network reject - NSAP address unknown (permanent)|";
-    put_nth(out, at, all, &starts, n - 101)
-}
-
-fn put_higher_diagnostics(out: &mut [u8], at: usize, n: usize) -> usize
-    requires { (112 ≤ n) × (n < 123) }
-    ensures { Emits out.old at (text_of n) out.new result }
-{
-    let starts = [0u16, 25, 68, 106, 160, 220, 280, 342, 404, 454, 479, 522];
-    let all =
-        b"System lack of resources|Higher level initiated disconnect (normal)|Incompatible information in user data|Higher level initiated disconnect - incompatible data|Higher level initiated reject - no reason given (transient)|Higher level initiated reject - no reason given (permanent)|Higher level initiated reject - QoS not available (transient)|Higher level initiated reject - QoS not available (permanent)|Higher level initiated reject - incompatible data|Unrecognized protocol ID|Higher level initiated reset - user resync|";
-    put_nth(out, at, all, &starts, n - 112)
-}
-
-fn put_packet_kinds(out: &mut [u8], at: usize, n: usize) -> usize
-    requires { (123 ≤ n) × (n < 137) }
-    ensures { Emits out.old at (text_of n) out.new result }
-{
-    let starts = [
-        0u16, 2, 7, 20, 34, 48, 62, 78, 97, 116, 137, 148, 151, 155, 159,
-    ];
-    let all =
-        b"?|data|call-request|call-accepted|clear-request|reset-request|restart-request|clear-confirmation|reset-confirmation|restart-confirmation|diagnostic|rr|rnr|rej|";
-    put_nth(out, at, all, &starts, n - 123)
-}
-
-fn put_esis_names(out: &mut [u8], at: usize, n: usize) -> usize
-    requires { (137 ≤ n) × (n < 147) }
-    ensures { Emits out.old at (text_of n) out.new result }
-{
-    let starts = [0u16, 17, 48, 75, 84, 93, 101, 107, 111, 115, 118];
-    let all =
-        b"clnp-compressed?|mobile-subnetwork-capabilities|atn-data-link-capabilities|priority|security|unknown|ES-IS|ESH|ISH|RD|";
-    put_nth(out, at, all, &starts, n - 137)
-}
-
-fn put_idrp_attributes(out: &mut [u8], at: usize, n: usize) -> usize
-    requires { (147 ≤ n) × (n < 161) }
-    ensures { Emits out.old at (text_of n) out.new result }
-{
-    let starts = [
-        0u16, 6, 15, 23, 32, 53, 74, 90, 104, 119, 127, 147, 170, 183, 192,
-    ];
-    let all =
-        b"route|ext-info|rd-path|next-hop|distribute-list-incl|distribute-list-excl|multi-exit-disc|transit-delay|residual-error|expense|locally-defined-qos|hierarchical-recording|rd-hop-count|capacity|";
-    put_nth(out, at, all, &starts, n - 147)
-}
-
-fn put_idrp_types(out: &mut [u8], at: usize, n: usize) -> usize
-    requires { (161 ≤ n) × (n < 172) }
-    ensures { Emits out.old at (text_of n) out.new result }
-{
-    let starts = [0u16, 5, 12, 18, 28, 34, 46, 61, 78, 97, 107, 129];
-    let all =
-        b"OPEN|UPDATE|ERROR|KEEPALIVE|CEASE|RIB-REFRESH|Open PDU error|Update PDU error|Hold timer expired|FSM error|RIB Refresh PDU error|";
-    put_nth(out, at, all, &starts, n - 161)
-}
-
-fn put_idrp_subcodes(out: &mut [u8], at: usize, n: usize) -> usize
-    requires { (172 ≤ n) × (n < 195) }
-    ensures { Emits out.old at (text_of n) out.new result }
-{
-    let starts = [
-        0u16, 27, 44, 56, 78, 91, 107, 120, 145, 179, 208, 230, 253, 269, 296, 321, 354, 373, 388,
-        410, 434, 449, 470, 475,
-    ];
-    let all =
-        b"Unsupported version number|Bad max PDU size|Bad peer RD|Unsupported auth code|Auth failure|Bad RIB-AttsSet|RDC Mismatch|Malformed attribute list|Unrecognized well-known attribute|Missing well-known attribute|Attribute flags error|Attribute length error|RD routing loop|Invalid NEXT_HOP attribute|Optional attribute error|Invalid reachability information|Misconfigured RDCs|Malformed NLRI|Duplicated attributes|Illegal RD path segment|Invalid opcode|Unsupported RIB-Atts|IDRP|";
-    put_nth(out, at, all, &starts, n - 172)
-}
-
-fn put_compressions(out: &mut [u8], at: usize, n: usize) -> usize
-    requires { (195 ≤ n) × (n < 199) }
-    ensures { Emits out.old at (text_of n) out.new result }
-{
-    let starts = [0u16, 4, 12, 17, 26];
-    let all = b"ACA|DEFLATE|LREF|LREF-CAN|";
-    put_nth(out, at, all, &starts, n - 195)
-}
-
-fn put_clnp_options(out: &mut [u8], at: usize, n: usize) -> usize
-    requires { (199 ≤ n) × (n < 207) }
-    ensures { Emits out.old at (text_of n) out.new result }
-{
-    let starts = [0u16, 5, 20, 36, 57, 78, 93, 106, 114];
-    let all =
-        b"lref|discard_reason|qos_maintenance|prefix_scope_control|radius_scope_control|source_routing|record_route|padding|";
-    put_nth(out, at, all, &starts, n - 199)
-}
-
-fn put_security_names(out: &mut [u8], at: usize, n: usize) -> usize
-    requires { (207 ≤ n) × (n < 230) }
-    ensures { Emits out.old at (text_of n) out.new result }
-{
-    let starts = [
-        0u16, 4, 8, 27, 41, 57, 59, 61, 63, 65, 67, 69, 71, 73, 80, 84, 89, 98, 101, 114, 125, 138,
-        145, 156,
-    ];
-    let all =
-        b"ATS|AOC|ATN Administrative|General Comms|ATN System Mgmt|A|B|C|D|E|F|G|H|Mode S|VDL|AMSS|Gatelink|HF|unclassified|restricted|confidential|secret|top secret|";
-    put_nth(out, at, all, &starts, n - 207)
-}
-
-fn put_security_tags(out: &mut [u8], at: usize, n: usize) -> usize
-    requires { (230 ≤ n) × (n < 240) }
-    ensures { Emits out.old at (text_of n) out.new result }
-{
-    let starts = [0u16, 24, 36, 59, 72, 88, 93, 112, 117, 139, 155];
-    let all =
-        b"security_classification|subnet_type|supported_atsc_classes|traffic_type|ATN operational|ATSC|ATN administrative|none|ATN system management|globally-unique|";
-    put_nth(out, at, all, &starts, n - 230)
-}
-
-fn put_clnp_types(out: &mut [u8], at: usize, n: usize) -> usize
-    requires { (240 ≤ n) × (n < 245) }
-    ensures { Emits out.old at (text_of n) out.new result }
-{
-    let starts = [0u16, 3, 7, 11, 14, 19];
-    let all = b"DT|ERQ|ERP|ER|CLNP|";
-    put_nth(out, at, all, &starts, n - 240)
-}
-
-fn put_cotp_reasons(out: &mut [u8], at: usize, n: usize) -> usize
-    requires { (245 ≤ n) × (n < 261) }
-    ensures { Emits out.old at (text_of n) out.new result }
-{
-    let starts = [
-        0u16, 21, 37, 73, 89, 107, 142, 172, 199, 221, 236, 255, 282, 317, 340, 358, 382,
-    ];
-    let all =
-        b"Reason not specified|TSAP congestion|Session entity not attached to TSAP|Unknown address|Normal disconnect|Remote transport entity congestion|Connection negotiation failed|Duplicate source reference|Mismatched references|Protocol error|Reference overflow|Connection request refused|Header or parameter length invalid|Invalid parameter code|Invalid TPDU type|Invalid parameter value|";
-    put_nth(out, at, all, &starts, n - 245)
-}
-
-fn put_cotp_params(out: &mut [u8], at: usize, n: usize) -> usize
-    requires { (261 ≤ n) × (n < 281) }
-    ensures { Emits out.old at (text_of n) out.new result }
-{
-    let starts = [
-        0u16, 13, 25, 45, 59, 70, 81, 103, 116, 121, 131, 158, 195, 204, 212, 230, 249, 274, 290,
-        314, 334,
-    ];
-    let all =
-        b"atn_checksum|ack_time_ms|residual_error_rate|transit_delay|throughput|subseq_num|reassignment_time_sec|flow_control|sack|tpdu_size|calling_transport_selector|called_responding_transport_selector|checksum|version|protection_params|additional_options|additional_proto_classes|additional_info|preferred_max_tpdu_size|inactivity_timer_ms|";
-    put_nth(out, at, all, &starts, n - 261)
-}
-
-fn put_tpdu_names(out: &mut [u8], at: usize, n: usize) -> usize
-    requires { (281 ≤ n) × (n < 289) }
-    ensures { Emits out.old at (text_of n) out.new result }
-{
-    let starts = [0u16, 3, 6, 9, 12, 15, 18, 21, 24];
-    let all = b"CR|CC|DR|DC|ED|AK|EA|RJ|";
-    put_nth(out, at, all, &starts, n - 281)
-}
-
 // X.25.
-fn put_x25_texts(out: &mut [u8], at: usize, n: usize) -> usize
-    requires { (1 ≤ n) × (n < 137) }
-    ensures { Emits out.old at (text_of n) out.new result }
+#[tactic(auto, unfolding(crate::specs::Texts::texts))]
+fn x25_text(number: u32) -> &'static [u8]
+    ensures { number < 137 → result.now ≡ text_of number }
 {
-    if n < 13 {
-        return put_clear_causes(out, at, n);
+    match number {
+        0 => b"",
+        1 => b"DTE originated",
+        2 => b"Number busy",
+        3 => b"Invalid facility request",
+        4 => b"Network congestion",
+        5 => b"Remote procedure error",
+        6 => b"Not obtainable",
+        7 => b"Local procedure error",
+        8 => b"ROA out of order",
+        9 => b"Reverse charging acceptance not subscribed",
+        10 => b"Incompatible destination",
+        11 => b"Fast select acceptance not subscribed",
+        12 => b"Ship absent",
+        13 => b"Out of order",
+        14 => b"Remote DTE operational",
+        15 => b"Network operational",
+        16 => b"Network out of order",
+        17 => b"Cleared by system management",
+        18 => b"Invalid P(S)",
+        19 => b"Invalid P(R)",
+        20 => b"Packet type invalid",
+        21 => b"Packet type invalid for state r1",
+        22 => b"Packet type invalid for state r2",
+        23 => b"Packet type invalid for state r3",
+        24 => b"Packet type invalid for state p1",
+        25 => b"Packet type invalid for state p2",
+        26 => b"Packet type invalid for state p3",
+        27 => b"Packet type invalid for state p4",
+        28 => b"Packet type invalid for state p5",
+        29 => b"Packet type invalid for state p6",
+        30 => b"Packet type invalid for state p7",
+        31 => b"Packet type invalid for state d1",
+        32 => b"Packet type invalid for state d2",
+        33 => b"Packet type invalid for state d3",
+        34 => b"Packet not allowed",
+        35 => b"Unidentifiable packet",
+        36 => b"Call on one-way logical channel",
+        37 => b"Invalid packet type on a PVC",
+        38 => b"Packet on unassigned logical channel",
+        39 => b"Reject not subscribed to",
+        40 => b"Packet too short",
+        41 => b"Packet too long",
+        42 => b"Invalid general format identifier",
+        43 => b"Restart packet with non-zero reserved bits",
+        44 => b"Packet type not compatible with facility",
+        45 => b"Unauthorized interrupt confirmation",
+        46 => b"Unauthorized interrupt",
+        47 => b"Unauthorized reject",
+        48 => b"TOA/NPI address subscription facility not subscribed to",
+        49 => b"Time expired",
+        50 => b"Time expired for incoming call",
+        51 => b"Time expired for clear indication",
+        52 => b"Time expired for reset indication",
+        53 => b"Time expired for restart indication",
+        54 => b"Time expired for call deflection",
+        55 => b"Call setup or call clearing problem",
+        56 => b"Facility code not allowed",
+        57 => b"Facility parameter not allowed",
+        58 => b"Invalid called DTE address",
+        59 => b"Invalid calling DTE address",
+        60 => b"Invalid facility length",
+        61 => b"Incoming call barred",
+        62 => b"No logical channel available",
+        63 => b"Call collision",
+        64 => b"Duplicate facility requested",
+        65 => b"Non-zero address length",
+        66 => b"Non-zero facility length",
+        67 => b"Facility not provided when expected",
+        68 => b"Invalid ITU-T specified DTE facility",
+        69 => b"Max number of call redirections or deflections exceeded",
+        70 => b"Miscellaneous",
+        71 => b"Improper cause code from DTE",
+        72 => b"Not aligned octet",
+        73 => b"Inconsistent Q-bit setting",
+        74 => b"NUI problem",
+        75 => b"ICRD problem",
+        76 => b"International problem",
+        77 => b"Remote network problem",
+        78 => b"International protocol problem",
+        79 => b"International link out of order",
+        80 => b"International link busy",
+        81 => b"Transit network facility problem",
+        82 => b"Remote network facility problem",
+        83 => b"International routing problem",
+        84 => b"Temporary routing problem",
+        85 => b"Unknown called DNIC",
+        86 => b"Maintenance action",
+        87 => b"Version number not supported",
+        88 => b"Invalid length field",
+        89 => b"Call collision resolution",
+        90 => b"Proposed directory size too large",
+        91 => b"LREF cancellation not supported",
+        92 => b"Received DTE refused, received NET refused or invalid NET selector",
+        93 => b"Invalid SNCR field",
+        94 => b"ACA compression not supported",
+        95 => b"LREF compression not supported",
+        96 => b"Deflate compression not supported",
+        97 => b"Idle timer expired",
+        98 => b"Need to reuse the circuit",
+        99 => b"System local error",
+        100 => b"Invalid SEL field value in received NET",
+        101 => b"OSI network disconnect (transient)",
+        102 => b"OSI network disconnect (permanent)",
+        103 => b"OSI network reject - reason unspecified (transient)",
+        104 => b"OSI network reject - reason unspecified (permanent)",
+        105 => b"OSI network reject - QoS not available (transient)",
+        106 => b"OSI network reject - QoS not available (permanent)",
+        107 => b"OSI network reject - NSAP unreachable (transient)",
+        108 => b"OSI network reject - NSAP unreachable (permanent)",
+        109 => b"OSI network reset - no reason given",
+        110 => b"OSI network reset - congestion",
+        111 => b"OSI network reject - NSAP address unknown (permanent)",
+        112 => b"System lack of resources",
+        113 => b"Higher level initiated disconnect (normal)",
+        114 => b"Incompatible information in user data",
+        115 => b"Higher level initiated disconnect - incompatible data",
+        116 => b"Higher level initiated reject - no reason given (transient)",
+        117 => b"Higher level initiated reject - no reason given (permanent)",
+        118 => b"Higher level initiated reject - QoS not available (transient)",
+        119 => b"Higher level initiated reject - QoS not available (permanent)",
+        120 => b"Higher level initiated reject - incompatible data",
+        121 => b"Unrecognized protocol ID",
+        122 => b"Higher level initiated reset - user resync",
+        123 => b"?",
+        124 => b"data",
+        125 => b"call-request",
+        126 => b"call-accepted",
+        127 => b"clear-request",
+        128 => b"reset-request",
+        129 => b"restart-request",
+        130 => b"clear-confirmation",
+        131 => b"reset-confirmation",
+        132 => b"restart-confirmation",
+        133 => b"diagnostic",
+        134 => b"rr",
+        135 => b"rnr",
+        136 => b"rej",
+        137.. => b"",
     }
-    if n < 17 {
-        return put_reset_causes(out, at, n);
-    }
-    if n < 34 {
-        return put_state_diagnostics(out, at, n);
-    }
-    if n < 55 {
-        return put_packet_diagnostics(out, at, n);
-    }
-    if n < 76 {
-        return put_call_diagnostics(out, at, n);
-    }
-    if n < 87 {
-        return put_international_diagnostics(out, at, n);
-    }
-    if n < 101 {
-        return put_atn_diagnostics(out, at, n);
-    }
-    if n < 112 {
-        return put_network_diagnostics(out, at, n);
-    }
-    if n < 123 {
-        return put_higher_diagnostics(out, at, n);
-    }
-    put_packet_kinds(out, at, n)
 }
 
-// ES-IS and IDRP.
-fn put_routing_texts(out: &mut [u8], at: usize, n: usize) -> usize
-    requires { (137 ≤ n) × (n < 195) }
-    ensures { Emits out.old at (text_of n) out.new result }
+// Unknown codes, ES-IS and IDRP.
+#[tactic(auto, unfolding(crate::specs::Texts::texts))]
+fn routing_text(number: u32) -> &'static [u8]
+    ensures { 137 ≤ number → number < 195 → result.now ≡ text_of number }
 {
-    if n < 147 {
-        return put_esis_names(out, at, n);
+    match number {
+        ..137 => b"",
+        137 => b"clnp-compressed?",
+        138 => b"mobile-subnetwork-capabilities",
+        139 => b"atn-data-link-capabilities",
+        140 => b"priority",
+        141 => b"security",
+        142 => b"unknown",
+        143 => b"ES-IS",
+        144 => b"ESH",
+        145 => b"ISH",
+        146 => b"RD",
+        147 => b"route",
+        148 => b"ext-info",
+        149 => b"rd-path",
+        150 => b"next-hop",
+        151 => b"distribute-list-incl",
+        152 => b"distribute-list-excl",
+        153 => b"multi-exit-disc",
+        154 => b"transit-delay",
+        155 => b"residual-error",
+        156 => b"expense",
+        157 => b"locally-defined-qos",
+        158 => b"hierarchical-recording",
+        159 => b"rd-hop-count",
+        160 => b"capacity",
+        161 => b"OPEN",
+        162 => b"UPDATE",
+        163 => b"ERROR",
+        164 => b"KEEPALIVE",
+        165 => b"CEASE",
+        166 => b"RIB-REFRESH",
+        167 => b"Open PDU error",
+        168 => b"Update PDU error",
+        169 => b"Hold timer expired",
+        170 => b"FSM error",
+        171 => b"RIB Refresh PDU error",
+        172 => b"Unsupported version number",
+        173 => b"Bad max PDU size",
+        174 => b"Bad peer RD",
+        175 => b"Unsupported auth code",
+        176 => b"Auth failure",
+        177 => b"Bad RIB-AttsSet",
+        178 => b"RDC Mismatch",
+        179 => b"Malformed attribute list",
+        180 => b"Unrecognized well-known attribute",
+        181 => b"Missing well-known attribute",
+        182 => b"Attribute flags error",
+        183 => b"Attribute length error",
+        184 => b"RD routing loop",
+        185 => b"Invalid NEXT_HOP attribute",
+        186 => b"Optional attribute error",
+        187 => b"Invalid reachability information",
+        188 => b"Misconfigured RDCs",
+        189 => b"Malformed NLRI",
+        190 => b"Duplicated attributes",
+        191 => b"Illegal RD path segment",
+        192 => b"Invalid opcode",
+        193 => b"Unsupported RIB-Atts",
+        194 => b"IDRP",
+        195.. => b"",
     }
-    if n < 161 {
-        return put_idrp_attributes(out, at, n);
-    }
-    if n < 172 {
-        return put_idrp_types(out, at, n);
-    }
-    put_idrp_subcodes(out, at, n)
 }
 
 // CLNP, its options and security labels.
-fn put_clnp_texts(out: &mut [u8], at: usize, n: usize) -> usize
-    requires { (195 ≤ n) × (n < 245) }
-    ensures { Emits out.old at (text_of n) out.new result }
+#[tactic(auto, unfolding(crate::specs::Texts::texts))]
+fn clnp_text(number: u32) -> &'static [u8]
+    ensures { 195 ≤ number → number < 245 → result.now ≡ text_of number }
 {
-    if n < 199 {
-        return put_compressions(out, at, n);
+    match number {
+        ..195 => b"",
+        195 => b"ACA",
+        196 => b"DEFLATE",
+        197 => b"LREF",
+        198 => b"LREF-CAN",
+        199 => b"lref",
+        200 => b"discard_reason",
+        201 => b"qos_maintenance",
+        202 => b"prefix_scope_control",
+        203 => b"radius_scope_control",
+        204 => b"source_routing",
+        205 => b"record_route",
+        206 => b"padding",
+        207 => b"ATS",
+        208 => b"AOC",
+        209 => b"ATN Administrative",
+        210 => b"General Comms",
+        211 => b"ATN System Mgmt",
+        212 => b"A",
+        213 => b"B",
+        214 => b"C",
+        215 => b"D",
+        216 => b"E",
+        217 => b"F",
+        218 => b"G",
+        219 => b"H",
+        220 => b"Mode S",
+        221 => b"VDL",
+        222 => b"AMSS",
+        223 => b"Gatelink",
+        224 => b"HF",
+        225 => b"unclassified",
+        226 => b"restricted",
+        227 => b"confidential",
+        228 => b"secret",
+        229 => b"top secret",
+        230 => b"security_classification",
+        231 => b"subnet_type",
+        232 => b"supported_atsc_classes",
+        233 => b"traffic_type",
+        234 => b"ATN operational",
+        235 => b"ATSC",
+        236 => b"ATN administrative",
+        237 => b"none",
+        238 => b"ATN system management",
+        239 => b"globally-unique",
+        240 => b"DT",
+        241 => b"ERQ",
+        242 => b"ERP",
+        243 => b"ER",
+        244 => b"CLNP",
+        245.. => b"",
     }
-    if n < 207 {
-        return put_clnp_options(out, at, n);
-    }
-    if n < 230 {
-        return put_security_names(out, at, n);
-    }
-    if n < 240 {
-        return put_security_tags(out, at, n);
-    }
-    put_clnp_types(out, at, n)
 }
 
 // COTP.
-fn put_cotp_texts(out: &mut [u8], at: usize, n: usize) -> usize
-    requires { (245 ≤ n) × (n < 289) }
-    ensures { Emits out.old at (text_of n) out.new result }
+#[tactic(auto, unfolding(crate::specs::Texts::texts))]
+fn cotp_text(number: u32) -> &'static [u8]
+    ensures { 245 ≤ number → number < 289 → result.now ≡ text_of number }
 {
-    if n < 261 {
-        return put_cotp_reasons(out, at, n);
+    match number {
+        ..245 => b"",
+        245 => b"Reason not specified",
+        246 => b"TSAP congestion",
+        247 => b"Session entity not attached to TSAP",
+        248 => b"Unknown address",
+        249 => b"Normal disconnect",
+        250 => b"Remote transport entity congestion",
+        251 => b"Connection negotiation failed",
+        252 => b"Duplicate source reference",
+        253 => b"Mismatched references",
+        254 => b"Protocol error",
+        255 => b"Reference overflow",
+        256 => b"Connection request refused",
+        257 => b"Header or parameter length invalid",
+        258 => b"Invalid parameter code",
+        259 => b"Invalid TPDU type",
+        260 => b"Invalid parameter value",
+        261 => b"atn_checksum",
+        262 => b"ack_time_ms",
+        263 => b"residual_error_rate",
+        264 => b"transit_delay",
+        265 => b"throughput",
+        266 => b"subseq_num",
+        267 => b"reassignment_time_sec",
+        268 => b"flow_control",
+        269 => b"sack",
+        270 => b"tpdu_size",
+        271 => b"calling_transport_selector",
+        272 => b"called_responding_transport_selector",
+        273 => b"checksum",
+        274 => b"version",
+        275 => b"protection_params",
+        276 => b"additional_options",
+        277 => b"additional_proto_classes",
+        278 => b"additional_info",
+        279 => b"preferred_max_tpdu_size",
+        280 => b"inactivity_timer_ms",
+        281 => b"CR",
+        282 => b"CC",
+        283 => b"DR",
+        284 => b"DC",
+        285 => b"ED",
+        286 => b"AK",
+        287 => b"EA",
+        288 => b"RJ",
+        289.. => b"",
     }
-    if n < 281 {
-        return put_cotp_params(out, at, n);
+}
+
+fn text(number: u32) -> &'static [u8]
+    ensures { result.now ≡ text_of number }
+{
+    match number {
+        ..137 => x25_text(number),
+        137..195 => routing_text(number),
+        195..245 => clnp_text(number),
+        245..289 => cotp_text(number),
+        289.. => b"",
     }
-    put_tpdu_names(out, at, n)
 }
 
 // The text of a text number, without its quotes; nothing for a number that is no text's.
 pub fn put_text(out: &mut [u8], at: usize, number: u32) -> usize
     ensures { Emits out.old at (text_of number) out.new result }
 {
-    let n = number as usize;
-    if n == 0 {
-        return at;
-    }
-    if n < 137 {
-        return put_x25_texts(out, at, n);
-    }
-    if n < 195 {
-        return put_routing_texts(out, at, n);
-    }
-    if n < 245 {
-        return put_clnp_texts(out, at, n);
-    }
-    if n < 289 {
-        return put_cotp_texts(out, at, n);
-    }
-    at
+    put_octets(out, at, text(number))
 }

@@ -8,7 +8,8 @@ use lib.ListN.{length, get_or}
 use Rattle.octets.specs.Emit.{top, Emits, on_from}
 use Rattle.cells.specs.Items.{flat}
 use Rattle.cells.specs.Answer.{answer_to, Parsed}
-use Rattle.cells.specs.declared.answer.Answer.TheVariants.{Whole, Short}
+use Rattle.std.specs.Prelude.{Ok, Err}
+use Rattle.cells.specs.declared.answer.Refusal.TheVariants.{Short}
 use Rattle.cells.proofs.Answers as answers
 use Rattle.clnp.specs.Pdu.{clnp_cells}
 use Rattle.esis.specs.Pdu.{esis_cells}
@@ -45,11 +46,11 @@ module _ (s : List ℕ) where
 
 -- ---- the answers on a compressed PDU
 module _ (s old : List ℕ) (low : length s ≤ 65535) where
-  pub says-short : length old < 5 → Parsed (length s) (compressed_cells s) old Short old
+  pub says-short : length old < 5 → Parsed (length s) (compressed_cells s) old (Err Short) old
   unfolding answer_to
   says-short h = record { answer = simp (le-ltb 65535 (length s) low, five s, lt-leb 5 (length old) h); output = refl }
 
-  pub says-whole : {new : List ℕ} {n : ℕ} → 5 ≤ length old → length old < top → Emits old 0 (compressed_cells s) new n → Parsed (length s) (compressed_cells s) old (Whole n) new
+  pub says-whole : {new : List ℕ} {n : ℕ} → 5 ≤ length old → length old < top → Emits old 0 (compressed_cells s) new n → Parsed (length s) (compressed_cells s) old (Ok n) new
   unfolding on_from
   says-whole h b w =
       let n = five s in

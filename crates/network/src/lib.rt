@@ -6,7 +6,7 @@ ghost use Rattle.octets.specs.Emit.{Emits};
 ghost use Rattle.cells.specs.Answer.{Parsed};
 ghost use Rattle.network.specs.Network.{compressed_cells, network_cells};
 
-use cells::answer::Answer;
+use cells::answer::{Answer, Refusal};
 use cells::emit::{close_group, open_object, put_number, put_octet_leaf, put_text_number};
 use clnp::parse_clnp;
 use esis::parse_esis;
@@ -31,29 +31,25 @@ fn parse_compressed(b: &[u8], out: &mut [u64]) -> Answer
     ensures { Parsed (length b.now) (compressed_cells b.now) out.old result out.new }
 {
     if out.len() < 5 {
-        return Answer::Short;
+        return Err(Refusal::Short);
     }
     let size = put_compressed(out, b);
-    Answer::Whole(size)
+    Ok(size)
 }
 
 pub fn parse_network(b: &[u8], out: &mut [u64]) -> Answer
     ensures { Parsed (length b.now) (network_cells b.now) out.old result out.new }
 {
     if 65535 < b.len() {
-        return Answer::TooLong;
+        return Err(Refusal::TooLong);
     }
     if b.len() == 0 {
-        return Answer::Unreadable;
+        return Err(Refusal::Unreadable);
     }
-    if b[0] == 0x81 {
-        return parse_clnp(b, out);
+    match b[0] {
+        0x81 => parse_clnp(b, out),
+        0x82 => parse_esis(b, out),
+        0x83 => parse_idrp(b, out),
+        _ => parse_compressed(b, out),
     }
-    if b[0] == 0x82 {
-        return parse_esis(b, out);
-    }
-    if b[0] == 0x83 {
-        return parse_idrp(b, out);
-    }
-    parse_compressed(b, out)
 }

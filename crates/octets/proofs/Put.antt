@@ -7,7 +7,8 @@ use native.Mathlib.Nat.{add-zero, add-suc, suc-add}
 use native.Mathlib.Numerals.{add-one}
 use native.Mathlib.Omega.{arith}
 use lib.ListN.{length, get_or, set, take, drop, length-drop, length-set}
-use lib.Seq.{get_or-set_same, get_or-set_other, sets, sets-eq, length-sets, set_out, take-suc, get_or-drop, length-take-le}
+use borrow.Rule.Slice.PartMut.{put_mid}
+use lib.Seq.{drop-drop, get_or-set_same, get_or-set_other, sets, sets-eq, length-sets, set_out, take-suc, get_or-drop, length-take-le}
 use Rattle.octets.specs.Emit.{put}
 
 module _ {A : Type 0} where
@@ -31,6 +32,12 @@ module _ {A : Type 0} where
   -- the same, with the brackets to the right
   pub put_is : (d : List A) (at : ℕ) (s : List A) → at + length s ≤ length d → put d at s ≡ take at d ++ (s ++ drop (at + length s) d)
   put_is d at s h = put-fits d at s h ∙ append_assoc (take at d) s (drop (at + length s) d)
+
+  -- a write to a part of a slice
+  pub put_part : (d s : List A) (at k : ℕ) → length s ≡ k → at + k ≤ length d → put_mid at k d s ≡ put d at s
+  put_part d s at k l h =
+      let e : at + length s ≡ at + k = omega arith in
+      ap (λ (z : List A). take at d ++ (s ++ z)) (drop-drop k at d ∙ sym (ap (λ (n : ℕ). drop n d) e)) ∙ sym (put_is d at s (omega arith))
 
   sets-past : (s d : List A) (at : ℕ) → length d ≤ at → sets d at s ≡ d
   sets-past [] d at h = refl

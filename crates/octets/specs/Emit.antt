@@ -1,5 +1,5 @@
 -- What an emitter does: it writes at a place of the output, drops what falls past the output's end, and gives the next place.
--- Octets and cells are emitted alike: lists of numbers.
+-- Octets and cells are emitted alike.
 use Rattle.std.specs.Prelude.{◌≡◌, List, ℕ, ◌+◌, ◌≤◌, min, length}
 use Rattle.std.proofs.lemmas.List.Edits.{sets}
 
@@ -16,7 +16,7 @@ unfoldable pub on_from : ℕ → ℕ → ℕ
 on_from at n = min (at + n) top
 
 -- from the output old and the place at, xs were put: the output is new, and the next place is next
-pub record Emits (old : List ℕ) (at : ℕ) (xs new : List ℕ) (next : ℕ) : Type 0 where
+pub record Emits {A : Type 0} (old : List A) (at : ℕ) (xs new : List A) (next : ℕ) : Type 0 where
   pub held : new ≡ put old at xs
   pub place : next ≡ on_from at (length xs)
   -- as every slice is

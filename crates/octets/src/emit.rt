@@ -3,54 +3,54 @@ ghost use Rattle.std.specs.Prelude.{◌≡◌, [], ◌∷◌, ◌+◌, ◌-◌, 
 ghost use Rattle.octets.specs.Emit.{Emits, put};
 
 // dst with n octets from place at on replaced by those of src from place from on.
-pub fn copy(dst: &mut [u8], at: usize, src: &[u8], from: usize, n: usize)
+pub fn copy<T: Copy>(dst: &mut [T], at: usize, src: &[T], from: usize, n: usize)
     requires { (at + n ≤ length dst.old) × (from + n ≤ length src.now) }
     ensures { dst.new ≡ put dst.old at (take n (drop from src.now)) }
 {
-    let mut j: usize = 0;
-    while j < n {
-        dst[at + j] = src[from + j];
-        j += 1;
+    dst[at..at + n].copy_from_slice(&src[from..from + n]);
+}
+
+pub fn put_one<T: Copy>(out: &mut [T], at: usize, x: T) -> usize
+    ensures { Emits out.old at (x ∷ []) out.new result }
+{
+    if at < out.len() {
+        out[at] = x;
     }
+    at.saturating_add(1)
 }
 
 pub fn put_octet(out: &mut [u8], at: usize, x: u8) -> usize
     ensures { Emits out.old at (x ∷ []) out.new result }
 {
-    if at < out.len() {
-        out[at] = x;
-        at + 1
-    } else if at < 18446744073709551615 {
-        at + 1
-    } else {
-        at
-    }
+    put_one(out, at, x)
 }
 
 // One by one, for an output that ends before s does.
-fn put_each(out: &mut [u8], at: usize, s: &[u8]) -> usize
+fn put_each<T: Copy>(out: &mut [T], at: usize, s: &[T]) -> usize
     ensures { Emits out.old at s.now out.new result }
 {
-    let mut i: usize = 0;
     let mut next = at;
-    while i < s.len() {
-        next = put_octet(out, next, s[i]);
-        i += 1;
+    for x in s {
+        next = put_one(out, next, *x);
     }
     next
+}
+
+pub fn put_all<T: Copy>(out: &mut [T], at: usize, s: &[T]) -> usize
+    ensures { Emits out.old at s.now out.new result }
+{
+    let n = s.len();
+    if at <= out.len() && n <= out.len() - at {
+        copy(out, at, s, 0, n);
+        return at + n;
+    }
+    put_each(out, at, s)
 }
 
 pub fn put_octets(out: &mut [u8], at: usize, s: &[u8]) -> usize
     ensures { Emits out.old at s.now out.new result }
 {
-    let n = s.len();
-    if at <= out.len() {
-        if n <= out.len() - at {
-            copy(out, at, s, 0, n);
-            return at + n;
-        }
-    }
-    put_each(out, at, s)
+    put_all(out, at, s)
 }
 
 // The octets of s from place from up to, and not including, place to.

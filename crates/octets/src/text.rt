@@ -49,11 +49,9 @@ pub fn put_hex_octet(out: &mut [u8], at: usize, x: u8) -> usize
 pub fn put_hex(out: &mut [u8], at: usize, s: &[u8]) -> usize
     ensures { Emits out.old at (hex s.now) out.new result }
 {
-    let mut i: usize = 0;
     let mut next = at;
-    while i < s.len() {
-        next = put_hex_octet(out, next, s[i]);
-        i += 1;
+    for x in s {
+        next = put_hex_octet(out, next, *x);
     }
     next
 }

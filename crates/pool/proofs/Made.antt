@@ -8,7 +8,7 @@ use lib.Dec.{ltb, leb}
 use lib.Ieee.{Float}
 use lib.ListN.{length, get_or, set, replicate, length-set, length-replicate, get_or-replicate}
 use lib.Seq.{get_or-set_same, get_or-set_other}
-use borrow.Author.Tests.{ltb-true, ltb-false, leb-true, lt-leb, le-leb}
+use borrow.Author.Tests.{ltb-true, ltb-false, leb-true}
 use Rattle.octets.specs.Emit.{put}
 use Rattle.octets.proofs.Tests.{all_none, all_of, and_left, and_right}
 use Rattle.octets.proofs.Put.{put_same, length-put}
@@ -161,32 +161,3 @@ module _ (w : List ℕ) (tm : List Float) (list home bs : List ℕ) (n b r c : �
 
   pub made : (kind : ℕ) → fits w tm list home bs n b r c ≡ true → Made (new_words w kind n b r c) tm list home bs kind n b r c
   made kind h = made_of kind (lent h)
-
-  -- ---- each way that the test fails
-  pub bad_settings : allowed n b r c ≡ false → fits w tm list home bs n b r c ≡ false
-  unfolding fits
-  bad_settings e = rw e
-
-  module _ (a : allowed n b r c ≡ true) where
-    pub bad_words : length w < 1576 → fits w tm list home bs n b r c ≡ false
-    unfolding fits
-    bad_words h = rw (a, lt-leb 1576 (length w) h)
-
-    module _ (p : 1576 ≤ length w) where
-      pub bad_times : length tm < 128 → fits w tm list home bs n b r c ≡ false
-      unfolding fits
-      bad_times h = rw (a, le-leb 1576 (length w) p, lt-leb 128 (length tm) h)
-
-      module _ (q : 128 ≤ length tm) where
-        pub bad_list : length list < b → fits w tm list home bs n b r c ≡ false
-        unfolding fits
-        bad_list h = rw (a, le-leb 1576 (length w) p, le-leb 128 (length tm) q, lt-leb b (length list) h)
-
-        module _ (s : b ≤ length list) where
-          pub bad_home : length home < b → fits w tm list home bs n b r c ≡ false
-          unfolding fits
-          bad_home h = rw (a, le-leb 1576 (length w) p, le-leb 128 (length tm) q, le-leb b (length list) s, lt-leb b (length home) h)
-
-          pub last-test : b ≤ length home → fits w tm list home bs n b r c ≡ leb (64 * b) (length bs)
-          unfolding fits
-          last-test h = rw (a, le-leb 1576 (length w) p, le-leb 128 (length tm) q, le-leb b (length list) s, le-leb b (length home) h)

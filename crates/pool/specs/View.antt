@@ -1,7 +1,10 @@
 -- What a store's tables, chains and octets spell, and when they are sound.
 use Rattle.std.specs.Prelude.{ℕ, zero, suc, ◌+◌, ◌*◌, ◌-◌, ◌≤◌, ◌<◌, ◌≡◌, Bool, true, cond, ◌&&◌, List, [], ◌∷◌, ◌++◌, leb, ltb, eqb, Float, length, get_or, set, take, drop, replicate}
 use Rattle.std.specs.Float.{nan}
+use Rattle.std.specs.Prelude.{Option, Some, None, Result, Ok, Err}
 use Rattle.clock.specs.Time.{fresh_t}
+use Rattle.pool.specs.declared.link.Full.{Full}
+use Rattle.pool.specs.declared.link.Full.TheVariants.{Places, Cap, Common}
 use Rattle.octets.specs.Tests.{all}
 use Rattle.octets.specs.Emit.{put}
 use Rattle.chain.specs.Chain.{homed, flat}
@@ -96,6 +99,16 @@ refusal w l u k n =
     (cond (ltb (cap w) c) 12
     (cond (ltb (blocks_in w - links w * reserve w + (count w l - reserve w)) (excess_of w (links w) + (c - reserve w))) 13 2))
 
+-- the number of a refusal, and of the answer: 2, or the refusal's
+abbrev pub number : Full → ℕ
+number Places = 11
+number Cap = 12
+number Common = 13
+
+abbrev pub answer : {A : Type 0} → Result A Full → ℕ
+answer (Ok x) = 2
+answer (Err e) = number e
+
 -- the list with entry j left out
 unfoldable pub without : {A : Type 0} → ℕ → List A → List A
 without j us = take j us ++ drop (suc j) us
@@ -153,6 +166,11 @@ pub record Found (us : Units) (key : List ℕ) (r : ℕ) : Type 0 where
   pub within : r ≤ length us
   pub first : (i : ℕ) → i < r → (get_or us i blank).key ≡ key → ⊥
   pub has : r < length us → (get_or us r blank).key ≡ key
+
+-- what a search for this key says
+abbrev pub Finds : Units → List ℕ → Option ℕ → Type 0
+Finds us key None = Found us key (length us)
+Finds us key (Some r) = (r < length us) × Found us key r
 
 -- part 0 is the body, and 1 the top
 abbrev pub part_of : ℕ → Unit → List ℕ

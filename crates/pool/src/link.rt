@@ -1,11 +1,32 @@
 // Operations on the units of a link of a sound store.
 ghost use Rattle.std.specs.Prelude.{◌≡◌, true, [], ◌+◌, ◌*◌, ◌-◌, ◌≤◌, ◌<◌, length, get_or};
 ghost use Rattle.tables.specs.Tables.{links, count, units, tables_ok};
-ghost use Rattle.pool.specs.View.{sound, pend, expired, emptied, key_is, Found, refusal, added, SameSettings};
+ghost use Rattle.pool.specs.View.{sound, pend, expired, emptied, key_is, Found, Finds, number, answer, refusal, added, SameSettings};
 
 use crate::place::{empty_place, place_at, set_place};
 use crate::unit::remove;
 use tables::ledger::{ledger_of, over_of, recounted};
+
+// What there is no room for: a unit more, the link's blocks within the cap, or its blocks within the common rest.
+#[derive(Clone, Copy, PartialEq, Eq)]
+pub enum Full {
+    Places,
+    Cap,
+    Common,
+}
+
+// The answer's number.
+impl From<Full> for u64 {
+    ghost from_gives = { λ f n. n ≡ number f };
+
+    fn from(full: Full) -> u64 {
+        match full {
+            Full::Places => 11,
+            Full::Cap => 12,
+            Full::Common => 13,
+        }
+    }
+}
 
 // The units of link l that are not fresh are taken out.
 pub fn expire(
@@ -17,12 +38,13 @@ pub fn expire(
     l: usize,
     at: f64,
 )
-    requires blocks_value { sound words.old times.old list.old home.old blocks.now ≡ true }
-    requires l_bound { l < links words.old }
-    ensures blocks_after { sound words.new times.new list.new home.new blocks.now ≡ true }
-    ensures blocks_after_2 { pend words.new times.new list.new blocks.now ≡ expired (pend words.old times.old list.old blocks.now) l at }
+    requires is_sound { sound words.old times.old list.old home.old blocks.now ≡ true }
+    requires in_range { l < links words.old }
+    ensures stays_sound { sound words.new times.new list.new home.new blocks.now ≡ true }
+    ensures pending { pend words.new times.new list.new blocks.now ≡ expired (pend words.old times.old list.old blocks.now) l at }
     ensures same_settings { SameSettings words.old words.new }
 {
+    // No `for`: where a unit goes, the next one comes to its place.
     let mut j: usize = 0;
     let mut u = words[24 + l] as usize;
     while j < u {
@@ -45,15 +67,13 @@ pub fn empty(
     blocks: &[u8],
     l: usize,
 )
-    requires blocks_value { sound words.old times.old list.old home.old blocks.now ≡ true }
-    requires l_bound { l < links words.old }
-    ensures blocks_after { sound words.new times.new list.new home.new blocks.now ≡ true }
-    ensures blocks_after_2 { pend words.new times.new list.new blocks.now ≡ emptied (pend words.old times.old list.old blocks.now) l }
+    requires is_sound { sound words.old times.old list.old home.old blocks.now ≡ true }
+    requires in_range { l < links words.old }
+    ensures stays_sound { sound words.new times.new list.new home.new blocks.now ≡ true }
+    ensures pending { pend words.new times.new list.new blocks.now ≡ emptied (pend words.old times.old list.old blocks.now) l }
     ensures same_settings { SameSettings words.old words.new }
 {
-    let mut u = words[24 + l] as usize;
-    while 0 < u {
-        u -= 1;
+    for u in (0..words[24 + l] as usize).rev() {
         remove(words, times, list, home, blocks, l, u);
     }
 }
@@ -63,17 +83,11 @@ fn key_at(words: &[u64], p: usize, key: &[u64]) -> bool
     requires { (p < 128) × (1576 ≤ length words.now) × (length key.now ≡ 6) }
     ensures { result ≡ key_is words.now p key.now }
 {
-    let mut k: usize = 0;
-    while k < 6 {
-        if words[40 + 12 * p + k] != key[k] {
-            return false;
-        }
-        k += 1;
-    }
-    true
+    let at = 40 + 12 * p;
+    &words[at..at + 6] == key
 }
 
-// The unit of link l that has this key, or the number of units where none has.
+// The unit of link l that has this key.
 pub fn find(
     words: &[u64],
     times: &[f64],
@@ -82,49 +96,47 @@ pub fn find(
     blocks: &[u8],
     l: usize,
     key: &[u64],
-) -> usize
-    requires blocks_value { sound words.now times.now list.now home.now blocks.now ≡ true }
-    requires l_bound { (l < links words.now) × (length key.now ≡ 6) }
-    ensures { Found (get_or (pend words.now times.now list.now blocks.now) l []) key.now result }
+) -> Option<usize>
+    requires is_sound { sound words.now times.now list.now home.now blocks.now ≡ true }
+    requires in_range { (l < links words.now) × (length key.now ≡ 6) }
+    ensures { Finds (get_or (pend words.now times.now list.now blocks.now) l []) key.now result }
 {
-    let u = words[24 + l] as usize;
-    let mut j: usize = 0;
-    while j < u {
+    for j in 0..words[24 + l] as usize {
         if key_at(words, 8 * l + j, key) {
-            return j;
+            return Some(j);
         }
-        j += 1;
     }
-    u
+    None
 }
 
-// The answer on u units more and n blocks in the place of k for link l: 2, or the refusal.
-pub fn room(words: &[u64], l: usize, u: u64, k: u64, n: u64) -> u64
+// Whether link l may have u units more, and n blocks in the place of k.
+#[tactic(auto, using(crate::proofs::Near::near, tables::proofs::Laws::tables, tables::proofs::Laws::settings))]
+pub fn room(words: &[u64], l: usize, u: u64, k: u64, n: u64) -> Result<(), Full>
     requires { (tables_ok words.now ≡ true) × (l < links words.now) × (u ≤ 1) × (k ≤ count words.now l) × (n ≤ 65536) }
-    ensures { result ≡ refusal words.now l u k n }
+    ensures { answer result ≡ refusal words.now l u k n }
 {
     if 8 < words[24 + l] + u {
-        return 11;
+        return Err(Full::Places);
     }
     // What is there already meets the shares.
     if n <= k {
-        return 2;
+        return Ok(());
     }
     let before = words[8 + l];
     let after = before + n - k;
     if words[4] < after {
-        return 12;
+        return Err(Full::Cap);
     }
     let r = words[3];
     // So does what is within the reserve.
     if after <= r {
-        return 2;
+        return Ok(());
     }
     let e = over_of(recounted(ledger_of(words), l, after), r);
     if words[2] - words[1] * r < e {
-        return 13;
+        return Err(Full::Common);
     }
-    2
+    Ok(())
 }
 
 // A unit with this key, note and time, and no octets, is the last of link l.
@@ -139,13 +151,13 @@ pub fn add(
     note: u64,
     at: f64,
 )
-    requires blocks_value { sound words.old times.old list.now home.now blocks.now ≡ true }
-    requires l_bound { (l < links words.old) × (units words.old l < 8) × (length key.now ≡ 6) }
+    requires is_sound { sound words.old times.old list.now home.now blocks.now ≡ true }
+    requires in_range { (l < links words.old) × (units words.old l < 8) × (length key.now ≡ 6) }
     requires found { Found (get_or (pend words.old times.old list.now blocks.now) l []) key.now (units words.old l) }
-    ensures blocks_after { sound words.new times.new list.now home.now blocks.now ≡ true }
-    ensures blocks_after_2 { pend words.new times.new list.now blocks.now ≡ added (pend words.old times.old list.now blocks.now) l key.now note at }
+    ensures stays_sound { sound words.new times.new list.now home.now blocks.now ≡ true }
+    ensures pending { pend words.new times.new list.now blocks.now ≡ added (pend words.old times.old list.now blocks.now) l key.now note at }
     ensures same_settings { SameSettings words.old words.new }
-    ensures l_after { units words.new l ≡ units words.old l + 1 }
+    ensures counted { units words.new l ≡ units words.old l + 1 }
 {
     let u = words[24 + l] as usize;
     set_place(words, times, 8 * l + u, empty_place(key, note, at));

@@ -5,6 +5,8 @@ ghost use Rattle.octets.specs.Emit.{put};
 ghost use Rattle.tables.specs.Tables.{word};
 ghost use Rattle.pool.specs.View.{tab};
 
+use octets::emit::copy;
+
 // Body and top are lengths in octets.
 #[derive(Clone, Copy)]
 pub struct Place {
@@ -23,24 +25,20 @@ fn six(s: &[u64], at: usize) -> [u64; 6]
     ensures { result ≡ take 6 (drop at s.now) }
 {
     let mut k = [0u64; 6];
-    let mut i: usize = 0;
-    while i < 6 {
-        k[i] = s[at + i];
-        i += 1;
-    }
+    k.copy_from_slice(&s[at..at + 6]);
     k
 }
 
 // Place p of the tables.
 pub fn place_at(words: &[u64], times: &[f64], p: usize) -> Place
     requires { (p < 128) × (1576 ≤ length words.now) × (128 ≤ length times.now) }
-    ensures key_value { result.key ≡ tab (word words.now p) 6 }
-    ensures note_value { result.note ≡ word words.now p 6 }
-    ensures body_value { result.body ≡ word words.now p 7 }
-    ensures top_value { result.top ≡ word words.now p 8 }
-    ensures bodyblocks_value { result.bodyblocks ≡ word words.now p 9 }
-    ensures topblocks_value { result.topblocks ≡ word words.now p 10 }
-    ensures time_value { result.time ≡ get_or times.now p nan }
+    ensures key_read { result.key ≡ tab (word words.now p) 6 }
+    ensures note_read { result.note ≡ word words.now p 6 }
+    ensures body_read { result.body ≡ word words.now p 7 }
+    ensures top_read { result.top ≡ word words.now p 8 }
+    ensures bodyblocks_read { result.bodyblocks ≡ word words.now p 9 }
+    ensures topblocks_read { result.topblocks ≡ word words.now p 10 }
+    ensures time_read { result.time ≡ get_or times.now p nan }
 {
     let at = 40 + 12 * p;
     Place {
@@ -57,9 +55,9 @@ pub fn place_at(words: &[u64], times: &[f64], p: usize) -> Place
 // A place with this key, note and time, and no octets.
 pub fn empty_place(key: &[u64], note: u64, time: f64) -> Place
     requires { length key.now ≡ 6 }
-    ensures key_value { result.key ≡ key.now }
-    ensures note_value { (result.note ≡ note) × (result.body ≡ 0) × (result.top ≡ 0) × (result.bodyblocks ≡ 0) × (result.topblocks ≡ 0) }
-    ensures time_value { result.time ≡ time }
+    ensures key_given { result.key ≡ key.now }
+    ensures note_given { (result.note ≡ note) × (result.body ≡ 0) × (result.top ≡ 0) × (result.bodyblocks ≡ 0) × (result.topblocks ≡ 0) }
+    ensures time_given { result.time ≡ time }
 {
     Place {
         key: six(key, 0),
@@ -75,15 +73,11 @@ pub fn empty_place(key: &[u64], note: u64, time: f64) -> Place
 // Place p of the tables is q.
 pub fn set_place(words: &mut [u64], times: &mut [f64], p: usize, q: Place)
     requires { (p < 128) × (1576 ≤ length words.old) × (128 ≤ length times.old) }
-    ensures words_after { words.new ≡ put words.old (40 + 12 * p) (q.key ++ (q.note ∷ q.body ∷ q.top ∷ q.bodyblocks ∷ q.topblocks ∷ [])) }
-    ensures times_after { times.new ≡ set times.old p q.time }
+    ensures words_put { words.new ≡ put words.old (40 + 12 * p) (q.key ++ (q.note ∷ q.body ∷ q.top ∷ q.bodyblocks ∷ q.topblocks ∷ [])) }
+    ensures time_set { times.new ≡ set times.old p q.time }
 {
     let at = 40 + 12 * p;
-    let mut k: usize = 0;
-    while k < 6 {
-        words[at + k] = q.key[k];
-        k += 1;
-    }
+    copy(words, at, &q.key, 0, 6);
     words[at + 6] = q.note;
     words[at + 7] = q.body;
     words[at + 8] = q.top;

@@ -7,24 +7,15 @@ ghost use Rattle.pool.specs.Kinds.{sound_of, any_unit};
 fn base_ok(words: &[u64], times: &[f64], list: &[u16], home: &[u16], blocks: &[u8]) -> bool
     ensures { result ≡ sound words.now times.now list.now home.now blocks.now }
 {
-    let m = tables::checked_used(words);
-    if m == 65535 {
+    let Some(m) = tables::checked_used(words) else {
         return false;
-    }
-    if times.len() < 128 {
-        return false;
-    }
+    };
     let b = words[2] as usize;
-    if list.len() < b {
-        return false;
-    }
-    if home.len() < b {
-        return false;
-    }
-    if blocks.len() < 64 * b {
-        return false;
-    }
-    chain::homed_ok(list, home, b, m)
+    128 <= times.len()
+        && b <= list.len()
+        && b <= home.len()
+        && 64 * b <= blocks.len()
+        && chain::homed_ok(list, home, b, m)
 }
 
 // Whether a store is a sound one of this kind, whatever is lent, but for the kind's own test of its units.
@@ -38,8 +29,5 @@ pub fn store_ok(
 ) -> bool
     ensures { result ≡ sound_of kind any_unit words.now times.now list.now home.now blocks.now }
 {
-    if !base_ok(words, times, list, home, blocks) {
-        return false;
-    }
-    words[0] == kind
+    base_ok(words, times, list, home, blocks) && words[0] == kind
 }

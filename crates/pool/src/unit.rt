@@ -1,11 +1,12 @@
 // Operations on the units of a sound store.
-ghost use Rattle.std.specs.Prelude.{◌≡◌, true, ◌+◌, ◌*◌, ◌-◌, ◌≤◌, ◌<◌, length, get_or, replicate};
+ghost use Rattle.std.specs.Prelude.{◌≡◌, true, ◌+◌, ◌*◌, ◌-◌, ◌≤◌, ◌<◌, length, get_or};
 ghost use Rattle.octets.specs.Emit.{put};
 ghost use Rattle.model.specs.Cost.{blocks as blocksFor};
 ghost use Rattle.tables.specs.Tables.{links, units, word, count, place_cost, tables_ok};
 ghost use Rattle.pool.specs.View.{sound, pend, start_of, part_at, Room, SameSettings, spliced, written, splice_words, removed, less_words, less_times, marked, unit_of, part_of};
 
 use crate::place::{place_at, set_place};
+use chain::source::Source;
 use tables::ledger::{ledger_of, recounted, set_count};
 
 // The block from which on place j of link l stands.
@@ -22,9 +23,10 @@ fn part_start(words: &[u64], p: usize, part: usize, s: usize) -> usize
     ensures { result ≡ s + part_at words.now p part }
 {
     if part == 0 {
-        return s;
+        s
+    } else {
+        s + words[40 + 12 * p + 9] as usize
     }
-    s + words[40 + 12 * p + 9] as usize
 }
 
 // A part of place j of link l is x octets long, and n blocks.
@@ -42,7 +44,8 @@ fn set_part(words: &mut [u64], l: usize, j: usize, part: usize, x: u64, n: u64)
 }
 
 // A part of unit j of link l from its octet d on becomes src.
-pub fn splice(
+#[tactic(auto, using(crate::proofs::Good::good, crate::proofs::Near::ready))]
+pub fn splice<S: Source>(
     words: &mut [u64],
     times: &[f64],
     list: &mut [u16],
@@ -52,13 +55,13 @@ pub fn splice(
     j: usize,
     part: usize,
     d: usize,
-    src: &[u8],
+    src: S,
 )
-    requires blocks_value { sound words.old times.now list.old home.old blocks.old ≡ true }
-    requires l_bound { (l < links words.old) × (j < units words.old l) × (part < 2) × (d ≤ word words.old (8 * l + j) (7 + part)) × (length src.now ≤ 65535) }
-    requires room { Room words.old l (word words.old (8 * l + j) (9 + part)) (blocksFor (d + length src.now)) }
-    ensures blocks_after { sound words.new times.now list.new home.new blocks.new ≡ true }
-    ensures blocks_after_2 { pend words.new times.now list.new blocks.new ≡ spliced (pend words.old times.now list.old blocks.old) l j part d src.now }
+    requires is_sound { sound words.old times.now list.old home.old blocks.old ≡ true }
+    requires in_range { (l < links words.old) × (j < units words.old l) × (part < 2) × (d ≤ word words.old (8 * l + j) (7 + part)) × (length (S.octets src) ≤ 65535) }
+    requires room { Room words.old l (word words.old (8 * l + j) (9 + part)) (blocksFor (d + length (S.octets src))) }
+    ensures stays_sound { sound words.new times.now list.new home.new blocks.new ≡ true }
+    ensures pending { pend words.new times.now list.new blocks.new ≡ spliced (pend words.old times.now list.old blocks.old) l j part d (S.octets src) }
     ensures same_settings { SameSettings words.old words.new }
 {
     let b = words[2] as usize;
@@ -72,38 +75,8 @@ pub fn splice(
     set_part(words, l, j, part, x as u64, n as u64);
 }
 
-// A part of unit j of link l from its octet d on becomes z zeros.
-pub fn zeros(
-    words: &mut [u64],
-    times: &[f64],
-    list: &mut [u16],
-    home: &mut [u16],
-    blocks: &mut [u8],
-    l: usize,
-    j: usize,
-    part: usize,
-    d: usize,
-    z: usize,
-)
-    requires blocks_value { sound words.old times.now list.old home.old blocks.old ≡ true }
-    requires l_bound { (l < links words.old) × (j < units words.old l) × (part < 2) × (d ≤ word words.old (8 * l + j) (7 + part)) × (z ≤ 65535) }
-    requires room { Room words.old l (word words.old (8 * l + j) (9 + part)) (blocksFor (d + z)) }
-    ensures blocks_after { sound words.new times.now list.new home.new blocks.new ≡ true }
-    ensures blocks_after_2 { pend words.new times.now list.new blocks.new ≡ spliced (pend words.old times.now list.old blocks.old) l j part d (replicate z 0) }
-    ensures same_settings { SameSettings words.old words.new }
-{
-    let b = words[2] as usize;
-    let m = tables::ledger::all_used(words);
-    let s = start_of(words, l, j);
-    let a = part_start(words, 8 * l + j, part, s);
-    let k = words[40 + 12 * (8 * l + j) + (9 + part)] as usize;
-    let x = d + z;
-    let n = (x + 63) / 64;
-    chain::splice_zeros(list, home, blocks, b, m, a, k, n, d, z);
-    set_part(words, l, j, part, x as u64, n as u64);
-}
-
 // A part of unit j of link l has src from its octet o on.
+#[tactic(auto, using(crate::proofs::Good::good, crate::proofs::Near::ready))]
 pub fn write(
     words: &[u64],
     times: &[f64],
@@ -116,10 +89,10 @@ pub fn write(
     o: usize,
     src: &[u8],
 )
-    requires blocks_value { sound words.now times.now list.now home.now blocks.old ≡ true }
-    requires l_bound { (l < links words.now) × (j < units words.now l) × (part < 2) × (o + length src.now ≤ word words.now (8 * l + j) (7 + part)) }
-    ensures blocks_after { sound words.now times.now list.now home.now blocks.new ≡ true }
-    ensures blocks_after_2 { pend words.now times.now list.now blocks.new ≡ written (pend words.now times.now list.now blocks.old) l j part o src.now }
+    requires is_sound { sound words.now times.now list.now home.now blocks.old ≡ true }
+    requires in_range { (l < links words.now) × (j < units words.now l) × (part < 2) × (o + length src.now ≤ word words.now (8 * l + j) (7 + part)) }
+    ensures stays_sound { sound words.now times.now list.now home.now blocks.new ≡ true }
+    ensures pending { pend words.now times.now list.now blocks.new ≡ written (pend words.now times.now list.now blocks.old) l j part o src.now }
 {
     let b = words[2] as usize;
     let m = tables::ledger::all_used(words);
@@ -135,14 +108,15 @@ fn take_place(words: &mut [u64], times: &mut [f64], l: usize, j: usize, k: u64)
 {
     let u = words[24 + l] as usize;
     let c = words[8 + l];
-    shift::down64(words, 40 + 12 * (8 * l + j), 12, 40 + 12 * (8 * l + u));
-    shift::downf(times, 8 * l + j, 1, 8 * l + u);
+    shift::down(words, 40 + 12 * (8 * l + j), 12, 40 + 12 * (8 * l + u));
+    shift::down(times, 8 * l + j, 1, 8 * l + u);
     words[24 + l] = (u - 1) as u64;
     let g = recounted(ledger_of(words), l, c - k);
     set_count(words, g, l);
 }
 
 // Unit j of link l is taken out.
+#[tactic(auto, using(crate::proofs::Good::good, crate::proofs::Near::ready))]
 pub fn remove(
     words: &mut [u64],
     times: &mut [f64],
@@ -152,12 +126,12 @@ pub fn remove(
     l: usize,
     j: usize,
 )
-    requires blocks_value { sound words.old times.old list.old home.old blocks.now ≡ true }
-    requires l_bound { (l < links words.old) × (j < units words.old l) }
-    ensures blocks_after { sound words.new times.new list.new home.new blocks.now ≡ true }
-    ensures blocks_after_2 { pend words.new times.new list.new blocks.now ≡ removed (pend words.old times.old list.old blocks.now) l j }
+    requires is_sound { sound words.old times.old list.old home.old blocks.now ≡ true }
+    requires in_range { (l < links words.old) × (j < units words.old l) }
+    ensures stays_sound { sound words.new times.new list.new home.new blocks.now ≡ true }
+    ensures pending { pend words.new times.new list.new blocks.now ≡ removed (pend words.old times.old list.old blocks.now) l j }
     ensures same_settings { SameSettings words.old words.new }
-    ensures l_after { units words.new l ≡ units words.old l - 1 }
+    ensures counted { units words.new l ≡ units words.old l - 1 }
 {
     let b = words[2] as usize;
     let m = tables::ledger::all_used(words);
@@ -168,6 +142,7 @@ pub fn remove(
 }
 
 // Unit j of link l gets a note and a time.
+#[tactic(auto, using(crate::proofs::Good::good, crate::proofs::Near::ready))]
 pub fn mark(
     words: &mut [u64],
     times: &mut [f64],
@@ -179,10 +154,10 @@ pub fn mark(
     note: u64,
     at: f64,
 )
-    requires blocks_value { sound words.old times.old list.now home.now blocks.now ≡ true }
-    requires l_bound { (l < links words.old) × (j < units words.old l) }
-    ensures blocks_after { sound words.new times.new list.now home.now blocks.now ≡ true }
-    ensures blocks_after_2 { pend words.new times.new list.now blocks.now ≡ marked (pend words.old times.old list.now blocks.now) l j note at }
+    requires is_sound { sound words.old times.old list.now home.now blocks.now ≡ true }
+    requires in_range { (l < links words.old) × (j < units words.old l) }
+    ensures stays_sound { sound words.new times.new list.now home.now blocks.now ≡ true }
+    ensures pending { pend words.new times.new list.now blocks.now ≡ marked (pend words.old times.old list.now blocks.now) l j note at }
     ensures same_settings { SameSettings words.old words.new }
 {
     let mut q = place_at(words, times, 8 * l + j);
@@ -192,6 +167,7 @@ pub fn mark(
 }
 
 // A part of unit j of link l is written into out from index at on; its length.
+#[tactic(auto, using(crate::proofs::Good::good, crate::proofs::Near::ready))]
 pub fn read(
     words: &[u64],
     times: &[f64],
@@ -204,10 +180,10 @@ pub fn read(
     out: &mut [u8],
     at: usize,
 ) -> usize
-    requires blocks_value { sound words.now times.now list.now home.now blocks.now ≡ true }
-    requires l_bound { (l < links words.now) × (j < units words.now l) × (part < 2) × (at + word words.now (8 * l + j) (7 + part) ≤ length out.old) }
-    ensures value { result ≡ length (part_of part (unit_of (pend words.now times.now list.now blocks.now) l j)) }
-    ensures out_after { out.new ≡ put out.old at (part_of part (unit_of (pend words.now times.now list.now blocks.now) l j)) }
+    requires is_sound { sound words.now times.now list.now home.now blocks.now ≡ true }
+    requires in_range { (l < links words.now) × (j < units words.now l) × (part < 2) × (at + word words.now (8 * l + j) (7 + part) ≤ length out.old) }
+    ensures length_read { result ≡ length (part_of part (unit_of (pend words.now times.now list.now blocks.now) l j)) }
+    ensures copied { out.new ≡ put out.old at (part_of part (unit_of (pend words.now times.now list.now blocks.now) l j)) }
 {
     let b = words[2] as usize;
     let m = tables::ledger::all_used(words);

@@ -15,7 +15,7 @@ use Rattle.cells.specs.Items.{Items, none, leaf, number, flag, text, record_of, 
 use Rattle.cells.specs.Read.{items_of, read, step, class_of, closes, placed, item_class, field_ok, leaf_ok, below, text_ok, leaf_of, bare}
 use Rattle.cells.specs.Good.{Good}
 use Rattle.cells.specs.Answer.{number_of}
-use Rattle.cells.specs.declared.answer.Answer.{Answer}
+use Rattle.cells.specs.Answer.{Answer}
 use Rattle.cells.proofs.WellFormed.{reads-back}
 use Rattle.cells.proofs.Answers.{readable}
 use Rattle.print.specs.Json.{leaf_text, comma, name, lead, row_text, json_of}

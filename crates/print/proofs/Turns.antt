@@ -1,4 +1,5 @@
 -- What a turn of a group's printer does to the reading and to the text.
+use Rattle.std.specs.Prelude.{Option, Some, None}
 use mathlib.Core.Path.{◌≡◌, refl, ◌∙◌}
 use mathlib.Core.List.{List, [], ◌∷◌, ◌++◌, append_assoc, append-nil}
 use mathlib.Core.Bool.{Bool, true, false, ◌&&◌}
@@ -14,7 +15,7 @@ use Rattle.cells.specs.Items as tree
 use Rattle.cells.specs.Items.{Items, leaf, group, ◌⊕◌}
 use Rattle.cells.specs.Read.{leaf_in, class_of, Stack, push, height, going, turn, step, and_then, read}
 use Rattle.cells.specs.declared.class.Class.{Class}
-use Rattle.cells.specs.declared.class.Class.TheVariants.{Leafy, Object, Entries, Close, Bad}
+use Rattle.cells.specs.declared.class.Class.TheVariants.{Leafy, Object, Entries, Close}
 use Rattle.cells.proofs.Classes.{opening}
 use Rattle.print.specs.Json.{lead, leaf_text, row_text, opens, closes}
 use Rattle.print.specs.Outcome.{Shown, Broken}
@@ -55,15 +56,15 @@ unfolding row_text
 one-group inp k b g f is = simp (append_assoc, append-nil)
 
 -- one cell is read
-read_one : (cells : List ℕ) (n : ℕ) (k : Bool) (d i : ℕ) → i < length cells → (q : Class) → class_of n k d (get_or cells i 0) ≡ q → (acc : Items) (st : Stack) → height st + 1 ≡ d
+read_one : (cells : List ℕ) (n : ℕ) (k : Bool) (d i : ℕ) → i < length cells → (q : Option Class) → class_of n k d (get_or cells i 0) ≡ q → (acc : Items) (st : Stack) → height st + 1 ≡ d
     → read n (drop i cells) (going k acc st) ≡ and_then (turn q (get_or cells i 0) k acc st) (read n (drop (i + 1) cells))
 unfolding read step
 read_one cells n k d i h q e acc st hs = rw (drop-cons cells i 0 h, add-one i, hs, e)
 
 read_open : (cells : List ℕ) (n : ℕ) (k : Bool) (d i : ℕ) → i < length cells → (g : Bool) → class_of n k d (get_or cells i 0) ≡ opening g → (acc : Items) (st : Stack) → height st + 1 ≡ d
     → read n (drop i cells) (going k acc st) ≡ read n (drop (i + 1) cells) (going g tree.none (push k (field_of (get_or cells i 0)) acc st))
-read_open cells n k d i h true q acc st e = read_one cells n k d i h Object q acc st e
-read_open cells n k d i h false q acc st e = read_one cells n k d i h Entries q acc st e
+read_open cells n k d i h true q acc st e = read_one cells n k d i h (Some Object) q acc st e
+read_open cells n k d i h false q acc st e = read_one cells n k d i h (Some Entries) q acc st e
 
 deeper : (n d : ℕ) → n + 1 ≡ d → suc n + 1 ≡ d + 1
 deeper n d e = omega arith
@@ -86,21 +87,21 @@ module _ {cells inp : List ℕ} {k : Bool} {from d : ℕ} {o : List ℕ} {at : �
   row-end h st e = row.reads st e ∙ rw (drop_of_length-le cells h)
 
   -- the cell is refused
-  pub row_bad : i < length cells → class_of (length inp) k d (get_or cells i 0) ≡ Bad → Broken cells inp k from d
-  row_bad h q st e = row.reads st e ∙ read_one cells (length inp) k d i h Bad q row.items st e
+  pub row_bad : i < length cells → class_of (length inp) k d (get_or cells i 0) ≡ None → Broken cells inp k from d
+  row_bad h q st e = row.reads st e ∙ read_one cells (length inp) k d i h None q row.items st e
 
   -- the group ends
-  pub row-close : {o'' : List ℕ} {r : ℕ} → from ≤ i → i < length cells → class_of (length inp) k d (get_or cells i 0) ≡ Close → Emits o' next (closes k ∷ []) o'' r → Shown cells inp k from d o at o'' (i + 1) r
+  pub row-close : {o'' : List ℕ} {r : ℕ} → from ≤ i → i < length cells → class_of (length inp) k d (get_or cells i 0) ≡ (Some Close) → Emits o' next (closes k ∷ []) o'' r → Shown cells inp k from d o at o'' (i + 1) r
   row-close g h q w = record {
     items = row.items;
     after = omega arith;
     within = omega arith;
-    reads = λ st e. row.reads st e ∙ read_one cells (length inp) k d i h Close q row.items st e;
+    reads = λ st e. row.reads st e ∙ read_one cells (length inp) k d i h (Some Close) q row.items st e;
     text = then row.text w;
   }
 
   -- a leaf
-  pub row-leaf : {o'' : List ℕ} {r : ℕ} → i < length cells → class_of (length inp) k d (get_or cells i 0) ≡ Leafy → Emits o' next (lead k first (field_of (get_or cells i 0)) ++ leaf_text inp (leaf_in (get_or cells i 0))) o'' r
+  pub row-leaf : {o'' : List ℕ} {r : ℕ} → i < length cells → class_of (length inp) k d (get_or cells i 0) ≡ (Some Leafy) → Emits o' next (lead k first (field_of (get_or cells i 0)) ++ leaf_text inp (leaf_in (get_or cells i 0))) o'' r
       → Row cells inp k from d o at o'' (i + 1) r false
   row-leaf {o''} {r} h q w =
       let f : ℕ = field_of (get_or cells i 0) in
@@ -108,7 +109,7 @@ module _ {cells inp : List ℕ} {k : Bool} {from d : ℕ} {o : List ℕ} {at : �
       record {
         items = row.items ⊕ leaf f v tree.none;
         begun = some-leaf row.items f v tree.none;
-        reads = λ st e. row.reads st e ∙ read_one cells (length inp) k d i h Leafy q row.items st e;
+        reads = λ st e. row.reads st e ∙ read_one cells (length inp) k d i h (Some Leafy) q row.items st e;
         text = rw (row-append inp k true row.items (leaf f v tree.none), ← row.begun, one-leaf inp k first f v) (then row.text w);
       }
 

@@ -3,8 +3,7 @@ use Rattle.std.specs.Prelude.{List, [], ℕ, length}
 use Rattle.std.proofs.Math.Option.{Option, none, some}
 use Rattle.cells.specs.Items.{Items}
 use Rattle.cells.specs.Read.{items_of}
-use Rattle.cells.specs.Answer.{Parsed}
-use Rattle.cells.specs.declared.answer.Answer.{Answer}
+use Rattle.cells.specs.Answer.{Answer, Parsed}
 use Rattle.print.specs.Json.{json_of}
 
 abbrev pub text_in : List ℕ → Option Items → List ℕ

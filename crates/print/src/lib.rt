@@ -3,8 +3,8 @@
 
 ghost use Rattle.print.specs.Print.{Prints};
 
-use crate::group::{Step, print_whole};
-use cells::answer::Answer;
+use crate::group::print_whole;
+use cells::answer::{Answer, Refusal};
 
 mod group;
 mod leaf;
@@ -14,16 +14,14 @@ pub fn print(cells: &[u64], input: &[u8], out: &mut [u8]) -> Answer
     ensures { Prints cells.now input.now out.old result out.new }
 {
     if 65535 < input.len() {
-        return Answer::TooLong;
+        return Err(Refusal::TooLong);
     }
-    match print_whole(&mut out[..0], cells, input) {
-        Step::Printed(_, size) => {
-            if out.len() < size {
-                return Answer::Short;
-            }
-            print_whole(out, cells, input);
-            Answer::Whole(size)
-        }
-        Step::Refused => Answer::Unreadable,
+    let Some(size) = print_whole(&mut out[..0], cells, input) else {
+        return Err(Refusal::Unreadable);
+    };
+    if out.len() < size {
+        return Err(Refusal::Short);
     }
+    print_whole(out, cells, input);
+    Ok(size)
 }

@@ -185,11 +185,9 @@ fn single(cells: &mut [u64], c: u64) -> usize {
 }
 
 fn singles(to: &mut Stdout, cells: &mut [u64], out: &mut [u8]) -> io::Result<()> {
-    let tried = TRIED;
-    let input = INPUT;
-    for k in 0..25 {
-        let n = single(cells, tried[k]);
-        show(to, cells, n, &input, out)?;
+    for c in TRIED {
+        let n = single(cells, c);
+        show(to, cells, n, &INPUT, out)?;
     }
     Ok(())
 }

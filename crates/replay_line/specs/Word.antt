@@ -1,9 +1,7 @@
 -- The words of a line: numbers and octets in hex.
-use Rattle.std.specs.Prelude.{ℕ, ◌+◌, ◌-◌, ◌*◌, ◌%◌, Bool, ◌&&◌, ◌||◌, List, [], ◌∷◌, leb, eqb, length, get_or, drop}
+use Rattle.std.specs.Prelude.{ℕ, ◌+◌, ◌-◌, ◌*◌, ◌%◌, Bool, ◌&&◌, ◌||◌, List, [], ◌∷◌, Option, Some, None, leb, eqb, length, get_or, drop}
 use Rattle.octets.specs.Text.{pick, value_from}
 use Rattle.octets.specs.Tests.{all}
-use Rattle.replay_line.specs.declared.word.Number.{Number}
-use Rattle.replay_line.specs.declared.word.Number.TheVariants.{Absent, Value}
 
 -- the octets before the first that is sep
 unfoldable pub up_to : ℕ → List ℕ → List ℕ
@@ -27,8 +25,8 @@ value_of w = value_from 0 w
 unfoldable pub is_number : List ℕ → Bool
 is_number w = leb 1 (length w) && (leb (length w) 10 && (all (λ i. is_digit (get_or w i 0)) (length w) && leb (value_of w) 4294967295))
 
-unfoldable pub number_in : List ℕ → Number
-number_in w = pick (is_number w) (Value (value_of w)) Absent
+abbrev pub number_in : List ℕ → Option ℕ
+number_in w = pick (is_number w) (Some (value_of w)) None
 
 -- ---- packets: at most 2,048 octets, each as two hex digits of either case; - where there are none
 -- the value of a hex digit, and 16 for what is none
@@ -38,6 +36,9 @@ digit_of x =
 
 abbrev pub is_hex : ℕ → Bool
 is_hex x = leb (digit_of x) 15
+
+abbrev pub hex_in : ℕ → Option ℕ
+hex_in x = pick (is_hex x) (Some (digit_of x)) None
 
 unfoldable pub pairs_of : List ℕ → List ℕ
 pairs_of [] = []

@@ -1,15 +1,15 @@
 // The words of a line.
-ghost use Rattle.std.specs.Prelude.{◌≡◌, true, ◌+◌, ◌≤◌, ◌<◌, length, drop, get_or};
+ghost use Rattle.std.specs.Prelude.{◌≡◌, ◌==◌, position, true, ◌+◌, ◌≤◌, ◌<◌, length, drop, get_or};
 ghost use Rattle.octets.specs.Emit.{Emits};
 ghost use Rattle.octets.specs.Tests.{all};
-ghost use Rattle.replay_line.specs.Word.{up_to, is_digit, value_of, number_in, digit_of, is_hex, is_dash, pairs_of, is_packet, packet_in};
+ghost use Rattle.replay_line.specs.Word.{up_to, is_digit, value_of, number_in, hex_in, is_hex, is_dash, pairs_of, is_packet, packet_in};
 
 use octets::emit::put_octet;
 
-#[derive(Clone, Copy)]
-pub enum Number {
-    Absent,
-    Value(u32),
+fn place_of(sep: u8, s: &[u8]) -> Option<usize>
+    ensures { result ≡ position (λ x. x == sep) s.now }
+{
+    s.iter().position(|x| *x == sep)
 }
 
 // The place of the first octet from place from on that is sep, or the end.
@@ -18,36 +18,16 @@ pub fn find(sep: u8, s: &[u8], from: usize) -> usize
     ensures value { result ≡ from + length (up_to sep (drop from s.now)) }
     ensures upper_bound { result ≤ length s.now }
 {
-    let mut i = from;
-    while i < s.len() {
-        if s[i] == sep {
-            return i;
-        }
-        i += 1;
+    match place_of(sep, &s[from..]) {
+        Some(i) => from + i,
+        None => s.len(),
     }
-    i
-}
-
-fn is_digit(x: u8) -> bool
-    ensures { result ≡ is_digit x }
-{
-    if 48 <= x {
-        return x <= 57;
-    }
-    false
 }
 
 fn all_digits(w: &[u8]) -> bool
     ensures { result ≡ all (λ i. is_digit (get_or w.now i 0)) (length w.now) }
 {
-    let mut i: usize = 0;
-    while i < w.len() {
-        if !is_digit(w[i]) {
-            return false;
-        }
-        i += 1;
-    }
-    true
+    w.iter().all(|x| matches!(*x, b'0'..=b'9'))
 }
 
 // Ten digits, which 64 bits hold.
@@ -56,107 +36,67 @@ fn value(w: &[u8]) -> u64
     requires w_value { all (λ i. is_digit (get_or w.now i 0)) (length w.now) ≡ true }
     ensures { result ≡ value_of w.now }
 {
-    let mut i: usize = 0;
     let mut v: u64 = 0;
-    while i < w.len() {
-        v = v * 10 + (w[i] - 48) as u64;
-        i += 1;
+    for x in w {
+        v = v * 10 + (*x - b'0') as u64;
     }
     v
 }
 
-pub fn number_in(w: &[u8]) -> Number
+#[tactic(auto, unfolding(crate::specs::Word::is_number))]
+pub fn number_in(w: &[u8]) -> Option<u32>
     ensures { result ≡ number_in w.now }
 {
-    let n = w.len();
-    if n < 1 {
-        return Number::Absent;
+    if !matches!(w.len(), 1..=10) || !all_digits(w) {
+        return None;
     }
-    if 10 < n {
-        return Number::Absent;
-    }
-    if !all_digits(w) {
-        return Number::Absent;
-    }
-    let v = value(w);
-    if v <= 4294967295 {
-        return Number::Value(v as u32);
-    }
-    Number::Absent
+    u32::try_from(value(w)).ok()
 }
 
-// The value of a hex digit, and 16 for what is none.
-fn digit_of(x: u8) -> u8
-    ensures { result ≡ digit_of x }
+// The value of a hex digit.
+#[tactic(auto, unfolding(crate::specs::Word::digit_of))]
+fn digit_of(x: u8) -> Option<u8>
+    ensures { result ≡ hex_in x }
 {
-    if is_digit(x) {
-        return x - 48;
+    match x {
+        b'0'..=b'9' => Some(x - b'0'),
+        b'a'..=b'f' => Some(x - b'a' + 10),
+        b'A'..=b'F' => Some(x - b'A' + 10),
+        _ => None,
     }
-    if 97 <= x {
-        if x <= 102 {
-            return x - 87;
-        }
-        return 16;
-    }
-    if 65 <= x {
-        if x <= 70 {
-            return x - 55;
-        }
-    }
-    16
 }
 
 fn all_hex(w: &[u8]) -> bool
     ensures { result ≡ all (λ i. is_hex (get_or w.now i 0)) (length w.now) }
 {
-    let mut i: usize = 0;
-    while i < w.len() {
-        if 15 < digit_of(w[i]) {
-            return false;
-        }
-        i += 1;
-    }
-    true
+    w.iter().all(|x| digit_of(*x).is_some())
 }
 
 fn is_dash(w: &[u8]) -> bool
     ensures { result ≡ is_dash w.now }
 {
-    if w.len() == 1 {
-        return w[0] == 45;
-    }
-    false
+    matches!(w, b"-")
 }
 
+#[tactic(auto, unfolding(crate::specs::Word::is_packet))]
 pub fn is_packet(w: &[u8]) -> bool
     ensures { result ≡ is_packet w.now }
 {
-    if is_dash(w) {
-        return true;
-    }
-    let n = w.len();
-    if n < 1 {
-        return false;
-    }
-    if 4096 < n {
-        return false;
-    }
-    if n % 2 == 0 {
-        return all_hex(w);
-    }
-    false
+    is_dash(w) || matches!(w.len(), 1..=4096) && w.len() % 2 == 0 && all_hex(w)
 }
 
 // Two digits at a time.
 fn put_pairs(out: &mut [u8], at: usize, w: &[u8]) -> usize
-    requires { is_packet w.now ≡ true }
+    requires { all (λ i. is_hex (get_or w.now i 0)) (length w.now) ≡ true }
     ensures { Emits out.old at (pairs_of w.now) out.new result }
 {
-    let mut i: usize = 0;
     let mut next = at;
-    while i + 1 < w.len() {
-        next = put_octet(out, next, digit_of(w[i]) * 16 + digit_of(w[i + 1]));
-        i += 2;
+    let mut rest = w;
+    while let [high, low, more @ ..] = rest {
+        let high = digit_of(*high).unwrap();
+        let low = digit_of(*low).unwrap();
+        next = put_octet(out, next, high * 16 + low);
+        rest = more;
     }
     next
 }
@@ -165,10 +105,7 @@ fn put_pairs(out: &mut [u8], at: usize, w: &[u8]) -> usize
 pub fn packet_len(w: &[u8]) -> usize
     ensures { result ≡ length (packet_in w.now) }
 {
-    if is_dash(w) {
-        return 0;
-    }
-    w.len() / 2
+    if is_dash(w) { 0 } else { w.len() / 2 }
 }
 
 // The octets of a packet's word.
@@ -177,7 +114,8 @@ pub fn put_packet(out: &mut [u8], at: usize, w: &[u8]) -> usize
     ensures { Emits out.old at (packet_in w.now) out.new result }
 {
     if is_dash(w) {
-        return at;
+        at
+    } else {
+        put_pairs(out, at, w)
     }
-    put_pairs(out, at, w)
 }

@@ -12,9 +12,8 @@ use Rattle.names.specs.Ascii.{octets}
 use Rattle.cells.specs.Items.{Items, record_of, flat}
 use Rattle.cells.specs.Good.{Good}
 use Rattle.cells.specs.Walk.{walk_from, walk_by}
-use Rattle.cells.specs.Answer.{answer_to, number_of}
-use Rattle.cells.specs.declared.answer.Answer.{Answer}
-use Rattle.cells.specs.declared.answer.Answer.TheVariants.{Whole}
+use Rattle.cells.specs.Answer.{Answer, answer_to, number_of}
+use Rattle.std.specs.Prelude.{Ok, Err}
 use Rattle.print.specs.Json.{json_of}
 use Rattle.print.specs.Print.{printed}
 use Rattle.print.proofs.Records.{printed_record, packet, packet-text}
@@ -24,17 +23,18 @@ use Rattle.x25.specs.Packet as x25
 use Rattle.x25.proofs.Cells.{no_cells, cells_are}
 use Rattle.x25.proofs.WellFormed.{good_members}
 use Rattle.network.specs.Network.{network_cells, network_members}
+use Rattle.std.specs.Prelude.{Some, None}
 use Rattle.network.proofs.WellFormed.{network_record}
 use Rattle.replay_line.specs.Line.{line_by, line_of, packet_of}
 use Rattle.replay_line.specs.Word.{digit_of, pairs_of, is_packet, packet_in}
 use Rattle.replay_line.specs.Said.{said_with, text_said}
-use Rattle.replay_line.specs.declared.line.Line.TheVariants.{Bad, X25, Network}
+use Rattle.replay_line.specs.declared.line.Line.TheVariants.{X25, Network}
 use Rattle.replay_line.proofs.Grammar.{packet-short, packet-octets, long_bad}
 use Rattle.reply.specs.Shown.{shown, shown_by, text_with}
 use Rattle.reply.specs.Reply.{said_of, reply_to, reply_of}
 
 -- ---- records
-answer-whole : (n : ℕ) (xs : List ℕ) (room : ℕ) → n < 65536 → 0 < length xs → length xs ≤ room → answer_to n xs room ≡ Whole (length xs)
+answer-whole : (n : ℕ) (xs : List ℕ) (room : ℕ) → n < 65536 → 0 < length xs → length xs ≤ room → answer_to n xs room ≡ Ok (length xs)
 unfolding answer_to
 answer-whole n xs room h some fit =
     let long : n ≤ 65535 = omega (arith, h) in
@@ -56,8 +56,8 @@ unfolding shown
 says_json cells room n s kids short good fit text-fit =
     let xs = flat 0 (record_of kids) in
     let e : printed xs s ≡ json_of s kids = printed_record s kids short good in
-    let a : answer_to (length s) xs cells ≡ Whole (length xs) = answer-whole (length s) xs cells short (cells-some kids) fit in
-    let b : answer_to (length s) (json_of s kids) room ≡ Whole (length (json_of s kids)) = answer-whole (length s) (json_of s kids) room short (json_some s kids) text-fit in
+    let a : answer_to (length s) xs cells ≡ Ok (length xs) = answer-whole (length s) xs cells short (cells-some kids) fit in
+    let b : answer_to (length s) (json_of s kids) room ≡ Ok (length (json_of s kids)) = answer-whole (length s) (json_of s kids) room short (json_some s kids) text-fit in
     ap (λ (q : Answer). text_said n (number_of (shown_by q xs s room)) (text_with (shown_by q xs s room) (printed xs s))) a
     ∙ ap (λ (t : List ℕ). text_said n (number_of (answer_to (length s) t room)) (text_with (answer_to (length s) t room) t)) e
     ∙ ap (λ (q : Answer). text_said n (number_of q) (text_with q (json_of s kids))) b
@@ -72,7 +72,7 @@ module _ (cells room n size : ℕ) (l : List ℕ) where
   abbrev s : List ℕ
   s = packet_of l
 
-  pub network_json : line_of l ≡ Network size → 0 < length (network_cells s) → length (network_cells s) ≤ cells → length (json_of s (network_members s)) ≤ room
+  pub network_json : line_of l ≡ Some (Network size) → 0 < length (network_cells s) → length (network_cells s) ≤ cells → length (json_of s (network_members s)) ≤ room
       → reply_of cells room n l ≡ text_said n 0 (json_of s (network_members s))
   unfolding reply_of
   network_json e some fit text-fit =
@@ -81,7 +81,7 @@ module _ (cells room n size : ℕ) (l : List ℕ) where
       ap (reply_to cells room n s) e ∙ ap (λ (xs : List ℕ). said_of cells room n xs s) r.0
       ∙ says_json cells room n s (network_members s) (omega (arith, short)) r.1 (omega (arith, fit, ap length r.0)) text-fit
 
-  pub x25_json : line_of l ≡ X25 size → 0 < length (x25_cells s) → length (x25_cells s) ≤ cells → length (json_of s (members_of s (x25.packet_of s))) ≤ room
+  pub x25_json : line_of l ≡ Some (X25 size) → 0 < length (x25_cells s) → length (x25_cells s) ≤ cells → length (json_of s (members_of s (x25.packet_of s))) ≤ room
       → reply_of cells room n l ≡ text_said n 0 (json_of s (members_of s (x25.packet_of s)))
   unfolding reply_of
   x25_json e some fit text-fit =
@@ -91,7 +91,7 @@ module _ (cells room n size : ℕ) (l : List ℕ) where
       ∙ says_json cells room n s (members_of s (x25.packet_of s)) (omega (arith, packet-short l)) (good_members s (all-octets s (packet-octets l)) readable) (omega (arith, fit, ap length k)) text-fit
 
 module _ (cells room n : ℕ) (l : List ℕ) where
-  pub bad_said_lem : line_of l ≡ Bad → reply_of cells room n l ≡ text_said n 17 []
+  pub bad_said_lem : line_of l ≡ None → reply_of cells room n l ≡ text_said n 17 []
   unfolding reply_of
   bad_said_lem e = ap (reply_to cells room n (packet_of l)) e
 
@@ -105,7 +105,7 @@ line = octets "P 10020043"
 abbrev said : List ℕ
 said = 16 ∷ 2 ∷ 0 ∷ 67 ∷ []
 
-line-kind : line_of line ≡ X25 4
+line-kind : line_of line ≡ Some (X25 4)
 unfolding line_of line_by is_packet packet_in pairs_of digit_of all
 line-kind = refl
 

@@ -8,16 +8,17 @@ use borrow.Author.Tests.{leb-true}
 use lib.Dec.{ltb, leb, eqb}
 use lib.ListN.{length, length-append}
 use Rattle.octets.specs.Text.{pick, digits, decimal}
-use Rattle.cells.specs.Answer.{answer_to, number_of}
-use Rattle.cells.specs.declared.answer.Answer.{Answer}
-use Rattle.cells.specs.declared.answer.Answer.TheVariants.{Whole, TooLong, Unreadable, Short}
+use Rattle.cells.specs.Answer.{Answer, answer_to, number_of}
+use Rattle.std.specs.Prelude.{Ok, Err}
+use Rattle.cells.specs.declared.answer.Refusal.TheVariants.{TooLong, Unreadable, Short}
 use Rattle.print.specs.Print.{printed}
 use Rattle.x25.specs.Packet.{x25_cells}
 use Rattle.network.specs.Network.{network_cells}
+use Rattle.std.specs.Prelude.{Option, Some, None}
 use Rattle.replay_line.specs.Line.{line_of, packet_of}
 use Rattle.replay_line.specs.Said.{or_dash, said_with}
 use Rattle.replay_line.specs.declared.line.Line.{Line}
-use Rattle.replay_line.specs.declared.line.Line.TheVariants.{Bad, X25, Network, Ordered}
+use Rattle.replay_line.specs.declared.line.Line.TheVariants.{X25, Network, Ordered}
 use Rattle.reply.specs.Shown.{shown_by, shown, text_with}
 use Rattle.reply.specs.Reply.{said_of, reply_to, reply_of}
 
@@ -64,17 +65,15 @@ fits-room : (n : ℕ) (xs : List ℕ) (room : ℕ) → length (text_with (answer
 unfolding answer_to
 fits-room n xs room = by (ltb 65535 n) (eqb (length xs) 0) (leb (length xs) room) refl
   where
-    by : (p q r : Bool) → leb (length xs) room ≡ r → length (text_with (pick p TooLong (pick q Unreadable (pick r (Whole (length xs)) Short))) xs) ≤ room
+    by : (p q r : Bool) → leb (length xs) room ≡ r → length (text_with (pick p (Err TooLong) (pick q (Err Unreadable) (pick r (Ok (length xs)) (Err Short)))) xs) ≤ room
     by true q r e = omega arith
     by false true r e = omega arith
     by false false true e = leb-true (length xs) room e
     by false false false e = omega arith
 
 shown-short : (xs s : List ℕ) (room : ℕ) (a : Answer) → length (text_with (shown_by a xs s room) (printed xs s)) ≤ room
-shown-short xs s room (Whole n) = fits-room (length s) (printed xs s) room
-shown-short xs s room TooLong = omega arith
-shown-short xs s room Unreadable = omega arith
-shown-short xs s room Short = omega arith
+shown-short xs s room (Ok n) = fits-room (length s) (printed xs s) room
+shown-short xs s room (Err r) = omega arith
 
 of_short : (cells room n : ℕ) (xs s : List ℕ) → length (said_of cells room n xs s) ≤ room + 45
 unfolding shown
@@ -83,11 +82,11 @@ of_short cells room n xs s =
     let t : List ℕ = text_with a (printed xs s) in
     omega (arith, said-short n (number_of a) (length t) t, shown-short xs s room (answer_to (length s) xs cells))
 
-to_short : (cells room n : ℕ) (s : List ℕ) (line : Line) → length (reply_to cells room n s line) ≤ room + 45
-to_short cells room n s Bad = omega (arith, said-short n 17 0 [])
-to_short cells room n s (X25 size) = of_short cells room n (x25_cells s) s
-to_short cells room n s (Network size) = of_short cells room n (network_cells s) s
-to_short cells room n s (Ordered o) = omega (arith, said-short n 17 0 [])
+to_short : (cells room n : ℕ) (s : List ℕ) (line : Option Line) → length (reply_to cells room n s line) ≤ room + 45
+to_short cells room n s None = omega (arith, said-short n 17 0 [])
+to_short cells room n s (Some (X25 size)) = of_short cells room n (x25_cells s) s
+to_short cells room n s (Some (Network size)) = of_short cells room n (network_cells s) s
+to_short cells room n s (Some (Ordered o)) = omega (arith, said-short n 17 0 [])
 
 -- so an output with that much room left keeps all of it
 pub reply_short : (cells room n : ℕ) (l : List ℕ) → length (reply_of cells room n l) ≤ room + 45

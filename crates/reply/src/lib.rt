@@ -23,10 +23,8 @@ fn show(a: Answer, cells: &[u64], s: &[u8], text: &mut [u8]) -> Answer
     ensures { Shows a (take (count_of a) cells.now) s.now text.old result text.new }
 {
     match a {
-        Answer::Whole(n) => print(&cells[..n], s, text),
-        Answer::TooLong => Answer::TooLong,
-        Answer::Unreadable => Answer::Unreadable,
-        Answer::Short => Answer::Short,
+        Ok(n) => print(&cells[..n], s, text),
+        Err(r) => Err(r),
     }
 }
 
@@ -39,6 +37,8 @@ fn say(out: &mut [u8], at: usize, n: u64, a: Answer, text: &[u8]) -> usize
     put_text_said(out, at, n, number(a), &text[..size])
 }
 
+// Not one function over the parser, with `reply_network`: its list of cells would be an argument of the specification alone, and
+// its body has two lines.
 fn reply_x25(
     out: &mut [u8],
     at: usize,
@@ -83,9 +83,8 @@ pub fn reply(
     ensures { Emits out.old at (reply_of (length cells.old) (length text.old) n l.now) out.new result }
 {
     match read_line(l, packet) {
-        Line::Bad => put_text_said(out, at, n, 17, &text[..0]),
-        Line::X25(size) => reply_x25(out, at, n, &packet[..size], cells, text),
-        Line::Network(size) => reply_network(out, at, n, &packet[..size], cells, text),
-        Line::Ordered(_) => put_text_said(out, at, n, 17, &text[..0]),
+        Some(Line::X25(size)) => reply_x25(out, at, n, &packet[..size], cells, text),
+        Some(Line::Network(size)) => reply_network(out, at, n, &packet[..size], cells, text),
+        Some(Line::Ordered(_)) | None => put_text_said(out, at, n, 17, &[]),
     }
 }

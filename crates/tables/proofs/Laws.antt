@@ -1,16 +1,16 @@
 -- What the tests say, and laws of sums.
 use Prim.Native.Nat.{ℕ, zero, suc, ◌+◌, ◌*◌, ◌-◌, ◌≤◌, ◌<◌}
 use mathlib.Core.Path.{◌≡◌, refl, sym, ap, ◌∙◌}
-use mathlib.Core.Bool.{Bool, true, false, cond, ◌&&◌}
+use mathlib.Core.Bool.{Bool, true, false}
 use mathlib.Core.List.{List}
 use native.Mathlib.Numerals.{add-one}
-use native.Mathlib.Nat.{mul-le-mul_left, suc-mul}
+use native.Mathlib.Nat.{suc-mul}
 use native.Mathlib.Omega.{arith}
 use lib.Dec.{ltb, leb, eqb}
-use lib.ListN.{length, get_or}
-use borrow.Author.Tests.{leb-true, le-leb, lt-leb, ltb-true, ltb-false, lt-ltb, le-ltb, eqb-true, eq-eqb, ne_eqb}
+use lib.ListN.{length}
+use borrow.Author.Tests.{leb-true, le-leb, lt-leb, ltb-true, ltb-false, lt-ltb, le-ltb, eqb-true, eq-eqb}
 use Rattle.octets.specs.Tests.{all}
-use Rattle.octets.proofs.Tests.{all-at, all_of, all-fails, and_left, and_right, and_false}
+use Rattle.octets.proofs.Tests.{all-at, all_of, all_none, all_more, all-fails, and_left, and_right, and_false}
 use Rattle.model.specs.Cost.{blocks}
 use Rattle.tables.specs.Tables.{links, blocks_in, reserve, cap, count, units, word, sum, place_ok, places_ok, costs, keys_ok, allowed, settings_ok, link_ok, idle, link_at, used_of, excess_of, tables_ok}
 
@@ -21,6 +21,9 @@ sum-none f = refl
 pub sum-next : (f : ℕ → ℕ) (n : ℕ) → sum f (n + 1) ≡ sum f n + f n
 unfolding sum
 sum-next f n = rw add-one
+
+-- for loops that test or sum
+pub ruleset loops = (all_none, all_more, all-fails, sum-none, sum-next)
 
 pub record Settings (w : List ℕ) : Type 0 where
   pub some-link : 1 ≤ links w
@@ -64,14 +67,6 @@ place w p h = record {
 pub place_of : (w : List ℕ) (p : ℕ) → Place w p → place_ok w p ≡ true
 unfolding place_ok
 place_of w p h = rw (eq-eqb (word w p 9) (blocks (word w p 7)) h.body, eq-eqb (word w p 10) (blocks (word w p 8)) h.top)
-
-pub place-body : (w : List ℕ) (p : ℕ) → (word w p 9 ≡ blocks (word w p 7) → ⊥) → place_ok w p ≡ false
-unfolding place_ok
-place-body w p e = rw (ne_eqb (word w p 9) (blocks (word w p 7)) e)
-
-pub place-top : (w : List ℕ) (p : ℕ) → word w p 9 ≡ blocks (word w p 7) → place_ok w p ≡ eqb (word w p 10) (blocks (word w p 8))
-unfolding place_ok
-place-top w p e = rw (eq-eqb (word w p 9) (blocks (word w p 7)) e)
 
 -- ---- links
 pub record Link (w : List ℕ) (l : ℕ) : Type 0 where
@@ -124,80 +119,6 @@ counts-low w s a l h =
     let q = settings w s in
     omega (arith, count_low w l (all-at (link_at w) l 16 a h), q.capped, q.few-blocks)
 
-pub product : (n r : ℕ) → n ≤ 16 → r ≤ 1024 → n * r ≤ 16384
-product n r h k = let z : n * r ≤ n * 1024 = mul-le-mul_left n k in omega arith
-
--- ---- each way that a link fails
-module _ (w : List ℕ) (l : ℕ) where
-  pub many : 8 < units w l → link_ok w l ≡ false
-  unfolding link_ok
-  many e = rw (lt-leb (units w l) 8 e)
-
-  module _ (few : units w l ≤ 8) where
-    pub past-cap : cap w < count w l → link_ok w l ≡ false
-    unfolding link_ok
-    past-cap e = rw (le-leb (units w l) 8 few, lt-leb (count w l) (cap w) e) (go (places_ok w (8 * l) (units w l)) (eqb (count w l) (costs w (8 * l) (units w l))))
-      where
-        go : (s t : Bool) → (s && (t && false)) ≡ false
-        go true true = refl
-        go true false = refl
-        go false t = refl
-
-    pub disagrees : (count w l ≡ cond (places_ok w (8 * l) (units w l)) (costs w (8 * l) (units w l)) 18446744073709551615 → ⊥) → link_ok w l ≡ false
-    unfolding link_ok
-    disagrees e = rw (le-leb (units w l) 8 few) (go (places_ok w (8 * l) (units w l)) e)
-      where
-        go : (s : Bool) → (count w l ≡ cond s (costs w (8 * l) (units w l)) 18446744073709551615 → ⊥) → (s && (eqb (count w l) (costs w (8 * l) (units w l)) && (leb (count w l) (cap w) && keys_ok w (8 * l) (units w l)))) ≡ false
-        go true n = rw (ne_eqb (count w l) (costs w (8 * l) (units w l)) n)
-        go false n = refl
-
-    module _ (within : count w l ≤ cap w) (low : cap w ≤ 1024) where
-      pub last : count w l ≡ cond (places_ok w (8 * l) (units w l)) (costs w (8 * l) (units w l)) 18446744073709551615 → link_ok w l ≡ keys_ok w (8 * l) (units w l)
-      unfolding link_ok
-      last e = rw (le-leb (units w l) 8 few, le-leb (count w l) (cap w) within) (go (places_ok w (8 * l) (units w l)) e)
-        where
-          go : (s : Bool) → count w l ≡ cond s (costs w (8 * l) (units w l)) 18446744073709551615 → (s && (eqb (count w l) (costs w (8 * l) (units w l)) && keys_ok w (8 * l) (units w l))) ≡ keys_ok w (8 * l) (units w l)
-          go true n = rw (eq-eqb (count w l) (costs w (8 * l) (units w l)) n)
-          go false n = absurd (omega (arith, n))
-
--- ---- where there is no link
-module _ (w : List ℕ) (l : ℕ) where
-  pub idle-units : (units w l ≡ 0 → ⊥) → idle w l ≡ false
-  unfolding idle
-  idle-units e = rw (ne_eqb (units w l) 0 e)
-
-  pub idle-count : (count w l ≡ 0 → ⊥) → idle w l ≡ false
-  unfolding idle
-  idle-count e = rw (ne_eqb (count w l) 0 e) (and_false (eqb (units w l) 0))
-
-  pub idle-last : units w l ≡ 0 → idle w l ≡ eqb (count w l) 0
-  unfolding idle
-  idle-last e = rw (eq-eqb (units w l) 0 e)
-
-  pub idle_of : units w l ≡ 0 → count w l ≡ 0 → idle w l ≡ true
-  idle_of e f = idle-last e ∙ eq-eqb (count w l) 0 f
-
--- the i-th of four from l on, by the words that are read
-module _ (w : List ℕ) (l i : ℕ) where
-  at : (j : ℕ) → get_or w (j + (l + i)) 0 ≡ get_or w (j + i + l) 0
-  at j = ap (λ (x : ℕ). get_or w x 0) (omega arith)
-
-  pub four-units : i < 4 → (get_or w (24 + i + l) 0 ≡ 0 → ⊥) → all (λ i. idle w (l + i)) 4 ≡ false
-  four-units h e = all-fails (λ i. idle w (l + i)) i 4 h (idle-units w (l + i) (λ z. e (sym (at 24) ∙ z)))
-
-  pub four-count : i < 4 → (get_or w (8 + i + l) 0 ≡ 0 → ⊥) → all (λ i. idle w (l + i)) 4 ≡ false
-  four-count h e = all-fails (λ i. idle w (l + i)) i 4 h (idle-count w (l + i) (λ z. e (sym (at 8) ∙ z)))
-
-  pub one_last : get_or w (24 + i + l) 0 ≡ 0 → idle w (l + i) ≡ eqb (get_or w (8 + i + l) 0) 0
-  one_last e = idle-last w (l + i) (at 24 ∙ e) ∙ ap (λ (x : ℕ). eqb x 0) (at 8)
-
-  pub one-idle : get_or w (24 + i + l) 0 ≡ 0 → get_or w (8 + i + l) 0 ≡ 0 → idle w (l + i) ≡ true
-  one-idle e f = one_last e ∙ eq-eqb (get_or w (8 + i + l) 0) 0 f
-
-pub all-last : (p : ℕ → Bool) → p 0 ≡ true → p 1 ≡ true → p 2 ≡ true → all p 4 ≡ p 3
-unfolding all
-all-last p a b c = rw (a, b, c)
-
 -- all sixteen: the links, and nothing past them
 pub links_fail : (w : List ℕ) (l : ℕ) → links w ≤ 16 → l < links w → link_ok w l ≡ false → all (link_at w) 16 ≡ false
 links_fail w l few h e = all-fails (link_at w) l 16 (omega arith) (link-is w l h ∙ e)
@@ -239,12 +160,6 @@ module _ (w : List ℕ) where
       pub common : all (link_at w) 16 ≡ true → tables_ok w ≡ leb (excess_of w (links w)) (blocks_in w - links w * reserve w)
       unfolding tables_ok
       common e = rw (le-leb 1576 (length w) long, set, e)
-
-pub unsound : (w : List ℕ) → tables_ok w ≡ false → 65535 ≡ cond (tables_ok w) (used_of w (links w)) 65535
-unsound w e = rw e
-
-pub sound : (w : List ℕ) → tables_ok w ≡ true → used_of w (links w) ≡ cond (tables_ok w) (used_of w (links w)) 65535
-sound w e = rw e
 
 pub record Tables (w : List ℕ) : Type 0 where
   pub long : 1576 ≤ length w

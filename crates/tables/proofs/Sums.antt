@@ -1,9 +1,13 @@
 -- Laws of `sum` and `all` over functions that agree.
 use Prim.Native.Nat.{ℕ, zero, suc, ◌+◌, ◌-◌, ◌≤◌, ◌<◌}
 use mathlib.Core.Path.{◌≡◌, refl, sym, ap, ◌∙◌}
-use mathlib.Core.Bool.{Bool, true, false}
+use mathlib.Core.Bool.{Bool, true, false, ◌&&◌}
+use mathlib.Core.List.{List, [], ◌∷◌}
 use native.Mathlib.Omega.{arith}
 use lib.Dec.{eqb, ltb}
+use lib.ListN.{length, get_or, take, drop, length-drop}
+use lib.Pointwise.{pointwise}
+use lib.Seq.{get_or-take, get_or-drop, length-take-le}
 use borrow.Author.Tests.{eqb-true, eqb-false, ltb-true, ltb-false}
 use Rattle.octets.specs.Tests.{all}
 use Rattle.octets.proofs.Tests.{no_true, all-at, all_of}
@@ -82,3 +86,34 @@ sum_past f n (suc m) h z = go (λ k. sum_past f n m k (λ i a b. z i a (omega ar
     go ih false e =
         let k : n ≤ m = omega (arith, eqb-false n (suc m) e) in
         omega (arith, ih k, z m k (omega arith))
+
+-- ---- words that are compared at once
+all-first : (p : ℕ → Bool) (n : ℕ) → all p (suc n) ≡ (p 0 && all (λ k. p (suc k)) n)
+unfolding all
+all-first p zero = go (p 0)
+  where
+    go : (x : Bool) → (true && x) ≡ (x && true)
+    go true = refl
+    go false = refl
+all-first p (suc n) = ap (λ (x : Bool). x && p (suc n)) (all-first p n) ∙ go (p 0) (all (λ k. p (suc k)) n) (p (suc n))
+  where
+    go : (x y z : Bool) → ((x && y) && z) ≡ (x && (y && z))
+    go true y z = refl
+    go false y z = refl
+
+pub pairs : (n : ℕ) (x y : List ℕ) → length x ≡ n → length y ≡ n → pointwise eqb x y ≡ all (λ k. eqb (get_or x k 0) (get_or y k 0)) n
+unfolding all
+pairs zero [] [] a b = refl
+pairs zero [] (v ∷ y) a b = absurd (omega arith)
+pairs zero (u ∷ x) y a b = absurd (omega arith)
+pairs (suc n) [] y a b = absurd (omega arith)
+pairs (suc n) (u ∷ x) [] a b = absurd (omega arith)
+pairs (suc n) (u ∷ x) (v ∷ y) a b =
+    ap (λ (t : Bool). eqb u v && t) (pairs n x y (omega arith) (omega arith)) ∙ sym (all-first (λ k. eqb (get_or (u ∷ x) k 0) (get_or (v ∷ y) k 0)) n)
+
+pub same-words : (w z : List ℕ) (p q i j n : ℕ) → i ≡ n → j ≡ n → p + n ≤ length w → q + n ≤ length z
+    → pointwise eqb (take i (drop p w)) (take j (drop q z)) ≡ all (λ k. eqb (get_or w (p + k) 0) (get_or z (q + k) 0)) n
+same-words w z p q i j n a b hp hq =
+    pairs n (take i (drop p w)) (take j (drop q z)) (length-take-le i (drop p w) (simp length-drop (omega arith)) ∙ a) (length-take-le j (drop q z) (simp length-drop (omega arith)) ∙ b)
+    ∙ all_same (λ k. eqb (get_or (take i (drop p w)) k 0) (get_or (take j (drop q z)) k 0)) (λ k. eqb (get_or w (p + k) 0) (get_or z (q + k) 0)) n
+    (λ k h. rw (get_or-take i (drop p w) k 0 (omega (arith, h, a)), get_or-take j (drop q z) k 0 (omega (arith, h, b)), get_or-drop p w k 0, get_or-drop q z k 0))

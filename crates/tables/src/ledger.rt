@@ -14,22 +14,17 @@ pub fn ledger_of(words: &[u64]) -> Ledger
     ensures { result.counts ≡ counts words.now }
 {
     let mut c = [0u64; 16];
-    let mut i: usize = 0;
-    while i < 16 {
-        c[i] = words[8 + i];
-        i += 1;
-    }
+    c.copy_from_slice(&words[8..24]);
     Ledger { counts: c }
 }
 
 // The ledger with the count of link l changed to n.
-pub fn recounted(g: Ledger, l: usize, n: u64) -> Ledger
+pub fn recounted(mut g: Ledger, l: usize, n: u64) -> Ledger
     requires { l < 16 }
     ensures { result.counts ≡ set g.counts l n }
 {
-    let mut m = g;
-    m.counts[l] = n;
-    m
+    g.counts[l] = n;
+    g
 }
 
 // The words hold what this ledger has for link l.
@@ -41,36 +36,27 @@ pub fn set_count(words: &mut [u64], g: Ledger, l: usize)
 }
 
 // The blocks of all links. Here and below the loop always has sixteen turns, so that it is unrolled.
+#[tactic(auto, using(crate::proofs::Laws::loops))]
 pub fn total_of(g: Ledger) -> u64
     requires { (l : ℕ) → l < 16 → get_or g.counts l 0 ≤ 65536 }
     ensures { result ≡ total g.counts }
 {
     let mut sum: u64 = 0;
-    let mut i: usize = 0;
-    while i < 16 {
+    for i in 0..16 {
         sum += g.counts[i];
-        i += 1;
     }
     sum
 }
 
-// What x is above r.
-pub fn above(x: u64, r: u64) -> u64
-    ensures { result ≡ x - r }
-{
-    if r < x { x - r } else { 0 }
-}
-
 // What all links use above the reserve r.
+#[tactic(auto, using(crate::proofs::Laws::loops))]
 pub fn over_of(g: Ledger, r: u64) -> u64
     requires { (l : ℕ) → l < 16 → get_or g.counts l 0 ≤ 65536 }
     ensures { result ≡ over r g.counts }
 {
     let mut sum: u64 = 0;
-    let mut i: usize = 0;
-    while i < 16 {
-        sum += above(g.counts[i], r);
-        i += 1;
+    for i in 0..16 {
+        sum += g.counts[i].saturating_sub(r);
     }
     sum
 }

@@ -38,16 +38,15 @@ fn number_line(to: &mut Stdout, out: &mut [u8], n: u32) -> io::Result<()> {
 }
 
 fn octet_lines(to: &mut Stdout, out: &mut [u8]) -> io::Result<()> {
-    for x in 0..256u32 {
-        octet_line(to, out, (x % 256) as u8)?;
+    for x in 0..=255u8 {
+        octet_line(to, out, x)?;
     }
     Ok(())
 }
 
 fn number_lines(to: &mut Stdout, out: &mut [u8]) -> io::Result<()> {
-    let numbers = NUMBERS;
-    for i in 0..66usize {
-        number_line(to, out, numbers[i])?;
+    for n in NUMBERS {
+        number_line(to, out, n)?;
     }
     Ok(())
 }

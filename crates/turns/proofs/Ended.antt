@@ -1,43 +1,19 @@
 -- What is kept of a unit, with a piece behind it, in an output.
 use Prim.Native.Nat.{ℕ, suc, ◌+◌, ◌≤◌, ◌<◌}
-use mathlib.Core.Path.{◌≡◌, refl, sym, ap, ap₂, ◌∙◌}
-use mathlib.Core.Bool.{Bool, true, false, cond}
-use mathlib.Core.List.{List, [], ◌∷◌, ◌++◌, append-nil}
+use mathlib.Core.Path.{◌≡◌, sym, ap, ap₂, ◌∙◌}
+use mathlib.Core.List.{List, [], ◌++◌, append-nil, append_assoc}
 use native.Mathlib.Omega.{arith}
-use borrow.Author.Tests.{ltb-true, ltb-false, le-ltb, lt-ltb}
-use lib.Dec.{ltb}
 use lib.Ieee.{Float}
-use lib.ListN.{length, get_or, set, take, length-append, drop_of_length-le, get_or-eq_default}
-use lib.Seq.{take_all, take-length, set-get_or}
+use lib.ListN.{length, get_or, set, take, drop, length-append, drop_of_length-le}
+use lib.Seq.{take_all, take-length, set-get_or, drop_at, length-take-le}
 use Rattle.octets.specs.Emit.{put}
-use Rattle.octets.proofs.Put.{put_nil, put-put}
+use Rattle.octets.proofs.Put.{put_is, length-put}
 use Rattle.tables.specs.Tables.{links, units}
-use Rattle.pool.specs.View.{Unit, blank, pend, unit_of, without, removed}
+use Rattle.pool.specs.View.{Unit, pend, without, removed}
 use Rattle.pool.proofs.Expired.{view-long}
 
-pub kept-all : (keep : Bool) (body : List ℕ) → 0 < length (cond keep body []) → cond keep body [] ≡ body
-kept-all true body h = refl
-kept-all false body h = absurd (omega arith)
-
-pub put-none : (o s : List ℕ) → length s ≤ 0 → o ≡ put o 0 s
-put-none o [] h = sym (put_nil o 0)
-put-none o (x ∷ s) h = absurd (omega arith)
-
 module _ (w : List ℕ) (tm : List Float) (list bs : List ℕ) (l j : ℕ) (hl : l < links w) where
-  -- past a link's units there is none
-  pub past : units w l ≤ j → unit_of (pend w tm list bs) l j ≡ blank
-  past h = get_or-eq_default (get_or (pend w tm list bs) l []) blank (omega (arith, view-long w tm list bs l hl))
-
-  -- where octets are kept there is a unit
-  pub there : (keep : Bool) → 0 < length (cond keep (unit_of (pend w tm list bs) l j).body []) → j < units w l
-  there keep h = go (ltb j (units w l)) refl
-    where
-      go : (b : Bool) → ltb j (units w l) ≡ b → j < units w l
-      go true e = ltb-true j (units w l) e
-      go false e =
-          absurd (omega (arith, h, ap length (kept-all keep (unit_of (pend w tm list bs) l j).body h), ap (λ (u : Unit). length u.body) (past (ltb-false j (units w l) e))))
-
-  -- and what is not there stays as it is
+  -- what is not there stays as it is
   pub removed-past : units w l ≤ j → pend w tm list bs ≡ removed (pend w tm list bs) l j
   unfolding removed without
   removed-past h =
@@ -47,13 +23,20 @@ module _ (w : List ℕ) (tm : List Float) (list bs : List ℕ) (l j : ℕ) (hl :
 
 -- ---- s is written, and the piece behind it
 module _ (o s piece : List ℕ) (d : ℕ) (e : d ≡ length s) where
-  pub short : length o < d + length piece → ◌≡◌ {A = ℕ} 10 (cond (ltb (length o) (length (s ++ piece))) 10 0)
-  short h = rw (lt-ltb (length o) (length (s ++ piece)) (omega (arith, length-append s piece)))
+  -- at the front
+  zero : (x y : List ℕ) → length y ≤ length x → put x 0 y ≡ y ++ drop (length y) x
+  zero x y h = let z : 0 + length y ≡ length y = omega arith in put_is x 0 y (omega arith) ∙ ap (λ (k : ℕ). y ++ drop k x) z
 
-  pub fits : d + length piece ≤ length o → ◌≡◌ {A = ℕ} 0 (cond (ltb (length o) (length (s ++ piece))) 10 0)
-  fits h = rw (le-ltb (length o) (length (s ++ piece)) (omega (arith, length-append s piece)))
-
-  pub both : (f o' : List ℕ) → f ≡ put o 0 s → o' ≡ put f d (take (length piece) piece) → o' ≡ put o 0 (s ++ piece)
-  both f o' g h =
-      let at : d ≡ 0 + length s = omega (arith, e) in
-      h ∙ ap (put f d) (take-length piece) ∙ ap₂ (λ (x : List ℕ) (k : ℕ). put x k piece) g at ∙ put-put o 0 s piece
+  -- where the piece is written first
+  pub in_front : d + length piece ≤ length o → (f : List ℕ) → f ≡ put o d (take (length piece) piece) → put f 0 s ≡ put o 0 (s ++ piece)
+  in_front h f w =
+      let p : f ≡ take d o ++ (piece ++ drop (d + length piece) o) = w ∙ ap (put o d) (take-length piece) ∙ put_is o d piece h in
+      let lf : length f ≡ length o = ap length w ∙ length-put o d (take (length piece) piece) in
+      let ld : length (take d o) ≡ length s = length-take-le d o (omega arith) ∙ e in
+      let n : d + length piece ≡ length (s ++ piece) = simp length-append (omega arith) in
+      zero f s (omega arith)
+      ∙ ap (λ (x : List ℕ). s ++ drop (length s) x) p
+      ∙ ap (λ (x : List ℕ). s ++ x) (drop_at (take d o) (piece ++ drop (d + length piece) o) (length s) ld)
+      ∙ sym (append_assoc s piece (drop (d + length piece) o))
+      ∙ ap (λ (k : ℕ). (s ++ piece) ++ drop k o) n
+      ∙ sym (zero o (s ++ piece) (omega (arith, n)))

@@ -8,9 +8,11 @@ use lib.Ieee.{Float}
 use lib.ListN.{length, get_or, take, set, length-append, length-set, get_or-eq_default}
 use lib.Seq.{take-length, get_or-set_same, set-set, get_or-append_seam, set-append_seam}
 use borrow.Author.Tests.{lt-ltb, le-ltb}
+use Rattle.std.specs.Prelude.{Result, Ok, Err, IsErr, IsErrAnd}
 use Rattle.model.specs.Cost.{blocks}
+use Rattle.pool.specs.declared.link.Full.{Full}
 use Rattle.tables.specs.Tables.{links, blocks_in, reserve, cap, count, units, word}
-use Rattle.pool.specs.View.{Unit, blank, body_from, marked_u, added_u, marked, spliced, added, pend, sound, refusal, Room, SameSettings}
+use Rattle.pool.specs.View.{answer, number, Unit, blank, body_from, marked_u, added_u, marked, spliced, added, pend, sound, refusal, Room, SameSettings}
 use Rattle.pool.specs.Shares.{cost_of, in_use, room_for}
 use Rattle.pool.specs.Kinds.{placed}
 use Rattle.pool.proofs.Good.{good}
@@ -206,3 +208,8 @@ module _ (w : List ℕ) (tm : List Float) (list home bs : List ℕ) (h : sound w
       let f : refusal w' l 0 0 (blocks (length piece)) ≡ 2 =
       room-by-units w' tm' list home bs h' l 0 0 (blocks (length piece)) hl' then a b ∙ same-room ∙ sym (new-room w tm list home bs h l hl key note at piece) ∙ two in
       rw none_yet (room_of w' l 0 0 (blocks (length piece)) (omega arith) f).1
+
+-- the number of a refusal that is handed on
+pub handed : {A : Type 0} (r : Result A Full) (f : Full) (P : Full → Type 0) → ((e : Full) → P e → e ≡ f) → IsErr r × IsErrAnd r P → answer r ≡ number f
+handed (Ok x) f P same h = absurd h.1
+handed (Err e) f P same h = ap number (same e h.1)

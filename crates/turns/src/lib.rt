@@ -1,18 +1,18 @@
 // The turns of a link's units where a unit grows at its end: a piece is held, or ends the unit.
 #![tactic(auto)]
 
-ghost use Rattle.std.specs.Prelude.{◌≡◌, true, cond, [], ◌+◌, ◌*◌, ◌≤◌, ◌<◌, eqb, ltb, length, get_or, set};
+ghost use Rattle.std.specs.Prelude.{◌≡◌, true, cond, [], ◌+◌, ◌*◌, ◌≤◌, ◌<◌, eqb, ltb, length, get_or, set, is_some, IfSome};
 ghost use Rattle.octets.specs.Emit.{put};
 ghost use Rattle.tables.specs.Tables.{links, blocks_in, reserve, cap, units, word};
-ghost use Rattle.pool.specs.View.{sound, pend, blank, Found, SameSettings, removed};
+ghost use Rattle.pool.specs.View.{sound, pend, blank, Found, Finds, SameSettings, removed, answer};
 ghost use Rattle.pool.specs.Shares.{room_for};
-ghost use Rattle.turns.specs.Turns.{whole, held};
+ghost use Rattle.turns.specs.Turns.{whole, held, found_at};
 
 use octets::emit::copy;
-use pool::link::{add, room};
+use pool::link::{Full, add, room};
 use pool::unit::{mark, read, remove, splice};
 
-// The octets that are kept of unit j of link l: of one that is there its body, or none.
+// How many octets are kept of unit j of link l: of one that is there its body, or none.
 fn kept(
     words: &[u64],
     times: &[f64],
@@ -20,20 +20,17 @@ fn kept(
     home: &[u16],
     blocks: &[u8],
     l: usize,
-    j: usize,
+    j: Option<usize>,
     keep: bool,
 ) -> usize
-    requires blocks_value { sound words.now times.now list.now home.now blocks.now ≡ true }
-    requires l_bound { (l < links words.now) × (j ≤ units words.now l) }
-    ensures { (result ≡ length (cond keep (get_or (get_or (pend words.now times.now list.now blocks.now) l []) j blank).body [])) × (result ≤ 65536) }
+    requires is_sound { sound words.now times.now list.now home.now blocks.now ≡ true }
+    requires in_range { (l < links words.now) × IfSome j (λ i. i < units words.now l) }
+    ensures { (result ≡ length (cond keep (get_or (get_or (pend words.now times.now list.now blocks.now) l []) (found_at (get_or (pend words.now times.now list.now blocks.now) l []) j) blank).body [])) × (result ≤ 65536) }
 {
-    if !keep {
-        return 0;
+    match j {
+        Some(j) if keep => words[40 + 12 * (8 * l + j) + 7] as usize,
+        _ => 0,
     }
-    if words[24 + l] as usize <= j {
-        return 0;
-    }
-    words[40 + 12 * (8 * l + j) + 7] as usize
 }
 
 // A piece is put behind what is kept of unit j of link l.
@@ -49,22 +46,20 @@ fn hold_more(
     note: u64,
     at: f64,
     piece: &[u8],
-) -> u64
-    requires blocks_value { sound words.old times.old list.old home.old blocks.old ≡ true }
-    requires l_bound { (l < links words.old) × (j < units words.old l) × (length piece.now ≤ 65535) }
-    ensures value { result ≡ room_for (links words.old) (blocks_in words.old) (reserve words.old) (cap words.old) (pend words.old times.old list.old blocks.old) l (held (get_or (pend words.old times.old list.old blocks.old) l []) j (get_or (get_or (pend words.old times.old list.old blocks.old) l []) j blank).key keep note at piece.now) }
-    ensures blocks_after { sound words.new times.new list.new home.new blocks.new ≡ true }
-    ensures blocks_after_2 { pend words.new times.new list.new blocks.new ≡ cond (eqb result 2) (set (pend words.old times.old list.old blocks.old) l (held (get_or (pend words.old times.old list.old blocks.old) l []) j (get_or (get_or (pend words.old times.old list.old blocks.old) l []) j blank).key keep note at piece.now)) (pend words.old times.old list.old blocks.old) }
+) -> Result<(), Full>
+    requires is_sound { sound words.old times.old list.old home.old blocks.old ≡ true }
+    requires in_range { (l < links words.old) × (j < units words.old l) × (length piece.now ≤ 65535) }
+    ensures judged { answer result ≡ room_for (links words.old) (blocks_in words.old) (reserve words.old) (cap words.old) (pend words.old times.old list.old blocks.old) l (held (get_or (pend words.old times.old list.old blocks.old) l []) j (get_or (get_or (pend words.old times.old list.old blocks.old) l []) j blank).key keep note at piece.now) }
+    ensures stays_sound { sound words.new times.new list.new home.new blocks.new ≡ true }
+    ensures pending { pend words.new times.new list.new blocks.new ≡ cond (eqb (answer result) 2) (set (pend words.old times.old list.old blocks.old) l (held (get_or (pend words.old times.old list.old blocks.old) l []) j (get_or (get_or (pend words.old times.old list.old blocks.old) l []) j blank).key keep note at piece.now)) (pend words.old times.old list.old blocks.old) }
     ensures same_settings { SameSettings words.old words.new }
 {
-    let d = kept(words, times, list, home, blocks, l, j, keep);
+    let d = kept(words, times, list, home, blocks, l, Some(j), keep);
     let k = words[40 + 12 * (8 * l + j) + 9];
-    let a = room(words, l, 0, k, ((d + piece.len() + 63) / 64) as u64);
-    if a == 2 {
-        splice(words, times, list, home, blocks, l, j, 0, d, piece);
-        mark(words, times, list, home, blocks, l, j, note, at);
-    }
-    a
+    room(words, l, 0, k, ((d + piece.len() + 63) / 64) as u64)?;
+    splice(words, times, list, home, blocks, l, j, 0, d, piece);
+    mark(words, times, list, home, blocks, l, j, note, at);
+    Ok(())
 }
 
 // A piece is the body of a new unit of link l.
@@ -79,25 +74,23 @@ fn hold_new(
     note: u64,
     at: f64,
     piece: &[u8],
-) -> u64
-    requires blocks_value { sound words.old times.old list.old home.old blocks.old ≡ true }
-    requires l_bound { (l < links words.old) × (length key.now ≡ 6) × (length piece.now ≤ 65535) }
+) -> Result<(), Full>
+    requires is_sound { sound words.old times.old list.old home.old blocks.old ≡ true }
+    requires in_range { (l < links words.old) × (length key.now ≡ 6) × (length piece.now ≤ 65535) }
     requires found { Found (get_or (pend words.old times.old list.old blocks.old) l []) key.now (units words.old l) }
-    ensures value { result ≡ room_for (links words.old) (blocks_in words.old) (reserve words.old) (cap words.old) (pend words.old times.old list.old blocks.old) l (held (get_or (pend words.old times.old list.old blocks.old) l []) (units words.old l) key.now true note at piece.now) }
-    ensures blocks_after { sound words.new times.new list.new home.new blocks.new ≡ true }
-    ensures blocks_after_2 { pend words.new times.new list.new blocks.new ≡ cond (eqb result 2) (set (pend words.old times.old list.old blocks.old) l (held (get_or (pend words.old times.old list.old blocks.old) l []) (units words.old l) key.now true note at piece.now)) (pend words.old times.old list.old blocks.old) }
+    ensures judged { answer result ≡ room_for (links words.old) (blocks_in words.old) (reserve words.old) (cap words.old) (pend words.old times.old list.old blocks.old) l (held (get_or (pend words.old times.old list.old blocks.old) l []) (units words.old l) key.now true note at piece.now) }
+    ensures stays_sound { sound words.new times.new list.new home.new blocks.new ≡ true }
+    ensures pending { pend words.new times.new list.new blocks.new ≡ cond (eqb (answer result) 2) (set (pend words.old times.old list.old blocks.old) l (held (get_or (pend words.old times.old list.old blocks.old) l []) (units words.old l) key.now true note at piece.now)) (pend words.old times.old list.old blocks.old) }
     ensures same_settings { SameSettings words.old words.new }
 {
     let u = words[24 + l] as usize;
-    let a = room(words, l, 1, 0, ((piece.len() + 63) / 64) as u64);
-    if a == 2 {
-        add(words, times, list, home, blocks, l, key, note, at);
-        splice(words, times, list, home, blocks, l, u, 0, 0, piece);
-    }
-    a
+    room(words, l, 1, 0, ((piece.len() + 63) / 64) as u64)?;
+    add(words, times, list, home, blocks, l, key, note, at);
+    splice(words, times, list, home, blocks, l, u, 0, 0, piece);
+    Ok(())
 }
 
-// A piece is put behind what is kept of unit j of link l, or of a new one where there is none: the answer is 2, or the refusal,
+// A piece is put behind what is kept of unit j of link l, or is a new one where none was found: the answer is 2, or the refusal,
 // which leaves the units as they are.
 pub fn hold(
     words: &mut [u64],
@@ -106,31 +99,31 @@ pub fn hold(
     home: &mut [u16],
     blocks: &mut [u8],
     l: usize,
-    j: usize,
+    j: Option<usize>,
     key: &[u64],
     keep: bool,
     note: u64,
     at: f64,
     piece: &[u8],
-) -> u64
-    requires blocks_value { sound words.old times.old list.old home.old blocks.old ≡ true }
-    requires l_bound { (l < links words.old) × (length key.now ≡ 6) × (length piece.now ≤ 65535) }
-    requires found { Found (get_or (pend words.old times.old list.old blocks.old) l []) key.now j }
-    ensures value { result ≡ room_for (links words.old) (blocks_in words.old) (reserve words.old) (cap words.old) (pend words.old times.old list.old blocks.old) l (held (get_or (pend words.old times.old list.old blocks.old) l []) j key.now keep note at piece.now) }
-    ensures blocks_after { sound words.new times.new list.new home.new blocks.new ≡ true }
-    ensures blocks_after_2 { pend words.new times.new list.new blocks.new ≡ cond (eqb result 2) (set (pend words.old times.old list.old blocks.old) l (held (get_or (pend words.old times.old list.old blocks.old) l []) j key.now keep note at piece.now)) (pend words.old times.old list.old blocks.old) }
+) -> Result<(), Full>
+    requires is_sound { sound words.old times.old list.old home.old blocks.old ≡ true }
+    requires in_range { (l < links words.old) × (length key.now ≡ 6) × (length piece.now ≤ 65535) }
+    requires found { Finds (get_or (pend words.old times.old list.old blocks.old) l []) key.now j }
+    ensures judged { answer result ≡ room_for (links words.old) (blocks_in words.old) (reserve words.old) (cap words.old) (pend words.old times.old list.old blocks.old) l (held (get_or (pend words.old times.old list.old blocks.old) l []) (found_at (get_or (pend words.old times.old list.old blocks.old) l []) j) key.now keep note at piece.now) }
+    ensures stays_sound { sound words.new times.new list.new home.new blocks.new ≡ true }
+    ensures pending { pend words.new times.new list.new blocks.new ≡ cond (eqb (answer result) 2) (set (pend words.old times.old list.old blocks.old) l (held (get_or (pend words.old times.old list.old blocks.old) l []) (found_at (get_or (pend words.old times.old list.old blocks.old) l []) j) key.now keep note at piece.now)) (pend words.old times.old list.old blocks.old) }
     ensures same_settings { SameSettings words.old words.new }
 {
-    if j < words[24 + l] as usize {
-        return hold_more(
+    match j {
+        Some(j) => hold_more(
             words, times, list, home, blocks, l, j, keep, note, at, piece,
-        );
+        ),
+        None => hold_new(words, times, list, home, blocks, l, key, note, at, piece),
     }
-    hold_new(words, times, list, home, blocks, l, key, note, at, piece)
 }
 
 // What is kept of unit j of link l, and a piece behind it, is written from the beginning of out on, and the unit is gone: the
-// answer is 0, or 10 where out is too short, which leaves units and output as they are.
+// answer is how many octets that are, or none where out is too short, which leaves units and output as they are.
 pub fn finish(
     words: &mut [u64],
     times: &mut [f64],
@@ -138,29 +131,30 @@ pub fn finish(
     home: &mut [u16],
     blocks: &[u8],
     l: usize,
-    j: usize,
+    j: Option<usize>,
     keep: bool,
     piece: &[u8],
     out: &mut [u8],
-) -> u64
-    requires blocks_value { sound words.old times.old list.old home.old blocks.now ≡ true }
-    requires l_bound { (l < links words.old) × (j ≤ units words.old l) × (length piece.now ≤ 65535) }
-    ensures value { result ≡ cond (ltb (length out.old) (length (whole (get_or (pend words.old times.old list.old blocks.now) l []) j keep piece.now))) 10 0 }
-    ensures out_after { out.new ≡ cond (eqb result 0) (put out.old 0 (whole (get_or (pend words.old times.old list.old blocks.now) l []) j keep piece.now)) out.old }
-    ensures blocks_after { sound words.new times.new list.new home.new blocks.now ≡ true }
-    ensures blocks_after_2 { pend words.new times.new list.new blocks.now ≡ cond (eqb result 0) (removed (pend words.old times.old list.old blocks.now) l j) (pend words.old times.old list.old blocks.now) }
+) -> Option<usize>
+    requires is_sound { sound words.old times.old list.old home.old blocks.now ≡ true }
+    requires in_range { (l < links words.old) × IfSome j (λ i. i < units words.old l) × (length piece.now ≤ 65535) }
+    ensures judged { result ≡ cond (ltb (length out.old) (length (whole (get_or (pend words.old times.old list.old blocks.now) l []) (found_at (get_or (pend words.old times.old list.old blocks.now) l []) j) keep piece.now))) None (Some (length (whole (get_or (pend words.old times.old list.old blocks.now) l []) (found_at (get_or (pend words.old times.old list.old blocks.now) l []) j) keep piece.now))) }
+    ensures finished { out.new ≡ cond (is_some result) (put out.old 0 (whole (get_or (pend words.old times.old list.old blocks.now) l []) (found_at (get_or (pend words.old times.old list.old blocks.now) l []) j) keep piece.now)) out.old }
+    ensures stays_sound { sound words.new times.new list.new home.new blocks.now ≡ true }
+    ensures pending { pend words.new times.new list.new blocks.now ≡ cond (is_some result) (removed (pend words.old times.old list.old blocks.now) l (found_at (get_or (pend words.old times.old list.old blocks.now) l []) j)) (pend words.old times.old list.old blocks.now) }
     ensures same_settings { SameSettings words.old words.new }
 {
     let d = kept(words, times, list, home, blocks, l, j, keep);
-    if out.len() < d + piece.len() {
-        return 10;
-    }
-    if 0 < d {
-        read(words, times, list, home, blocks, l, j, 0, out, 0);
+    let n = d + piece.len();
+    if out.len() < n {
+        return None;
     }
     copy(out, d, piece, 0, piece.len());
-    if j < words[24 + l] as usize {
+    if let Some(j) = j {
+        if keep {
+            read(words, times, list, home, blocks, l, j, 0, out, 0);
+        }
         remove(words, times, list, home, blocks, l, j);
     }
-    0
+    Some(n)
 }

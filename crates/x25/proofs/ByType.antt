@@ -1,6 +1,7 @@
 -- Packets by their third octet: the tests apart from each other.
 use Prim.Native.Nat.{ℕ, ◌%◌, ◌≤◌, ◌<◌}
-use mathlib.Core.Path.{◌≡◌, ◌∙◌}
+use Rattle.std.specs.Prelude.{Option, Some, None}
+use mathlib.Core.Path.{◌≡◌, refl, sym, ap, ◌∙◌}
 use mathlib.Core.List.{List}
 use mathlib.Core.Bool.{true}
 use native.Mathlib.Omega.{arith}
@@ -9,8 +10,12 @@ use lib.Dec.{eqb, ltb}
 use lib.ListN.{length}
 use Rattle.octets.specs.Text.{pick}
 use Rattle.octets.proofs.Tests.{and_left, and_right}
-use Rattle.names.specs.Numbers.{t_rr, t_rnr, t_rej}
-use Rattle.x25.specs.Packet.{data_of, received, unreadable, fac_pos, has_facilities, by_type}
+use Rattle.octets.proofs.Picks.{pick_elim}
+use Rattle.names.specs.Numbers.{t_call_request, t_rr, t_rnr, t_rej}
+use Rattle.x25.specs.Sndcf.{field_at}
+use Rattle.x25.specs.Packet.{data_of, received, unreadable, fac_pos, fac_end, has_facilities, with_field, call_request, call_accepted, by_type, known}
+use Rattle.x25.specs.declared.packet.Packet.{Packet}
+use Rattle.x25.specs.declared.sndcf.Field.{Field}
 
 pub has_block : (s : List ℕ) → has_facilities s ≡ true → 3 < length s
 has_block s h = ltb-true 3 (length s) (and_left (ltb 3 (length s)) (ltb (fac_pos s) (length s)) h)
@@ -51,3 +56,18 @@ module _ (s : List ℕ) (t : ℕ) where
 
   pub is_none : Others → (t % 32 ≡ 1 → ⊥) → (t % 32 ≡ 5 → ⊥) → (t % 32 ≡ 9 → ⊥) → by_type s t ≡ unreadable (length s)
   is_none h a b c = others h ∙ simp (ne_eqb (t % 32) 1 a, ne_eqb (t % 32) 5 b, ne_eqb (t % 32) 9 c)
+
+-- a packet whose kind is not 0 is known
+pub known-is : {r x : Packet} → r ≡ x → (x.kind ≡ 0 → ⊥) → Some r ≡ known x
+known-is {r} {x} e h = ap Some e ∙ sym (simp (ne_eqb x.kind 0 h))
+
+called-kind : (s : List ℕ) (f : Option Field) → (with_field s f).kind ≡ t_call_request
+called-kind s None = refl
+called-kind s (Some f) = refl
+
+pub request-known : (s : List ℕ) → (call_request s).kind ≡ 0 → ⊥
+request-known s =
+    pick_elim (λ (x : Packet). x.kind ≡ 0 → ⊥) (has_facilities s) (λ h z. omega (arith, z, called-kind s (field_at s (fac_end s)))) (λ h z. omega (arith, z))
+
+pub accepted-known : (s : List ℕ) → (call_accepted s).kind ≡ 0 → ⊥
+accepted-known s = pick_elim (λ (x : Packet). x.kind ≡ 0 → ⊥) (has_facilities s) (λ h z. omega (arith, z)) (λ h z. omega (arith, z))

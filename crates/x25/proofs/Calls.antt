@@ -1,4 +1,5 @@
 -- Calls that are laid out as X.25 draws them are read as what was laid out.
+use Rattle.std.specs.Prelude.{Option, Some, None}
 use Prim.Native.Nat.{ℕ, suc, ◌+◌, ◌*◌, ◌-◌, ◌/◌, ◌≤◌, ◌<◌, min}
 use mathlib.Core.Bool.{Bool, true, false}
 use mathlib.Core.List.{List, [], ◌∷◌, ◌++◌, append_assoc}
@@ -12,16 +13,13 @@ use lib.Seq.{drop-append-add, get_or_at, get_or-append-add, take_at, drop_at, ge
 use Rattle.octets.specs.Text.{pick}
 use Rattle.names.specs.Numbers.{k_facilities, t_call_request, t_call_accepted}
 use Rattle.cells.specs.Items.{Items, none, ◌⊕◌, in_list}
-use Rattle.cells.specs.Walk.{walk_from}
-use Rattle.cells.specs.declared.entry.Entry.TheVariants.{Body}
+use Rattle.cells.specs.Walk.{body, walk_from}
 use Rattle.cells.proofs.Walks.{turn, over}
 use Rattle.x25.specs.Facility.{fac_at, facility, fac_step, fac_items, fac_left}
 use Rattle.x25.specs.Sndcf.{field_at}
+use Rattle.x25.specs.declared.sndcf.Field.{Field}
 use Rattle.x25.specs.Packet.{octet_at, lcn_of, fac_pos, fac_len, fac_end, fac_read, has_facilities, call_with, with_field, by_type, packet_of, fac_member}
 use Rattle.x25.specs.Layout.{head, packed, addresses_laid, Facility, facility_laid, facilities_laid, Right, AllRight, call_laid, facilities_at, facilities_read}
-use Rattle.x25.specs.declared.sndcf.Field.TheVariants.{Absent, Found}
-use Rattle.x25.specs.declared.packet.Octet.{Octet}
-use Rattle.x25.specs.declared.packet.Octet.TheVariants.{Nothing, Is}
 use Rattle.x25.specs.declared.packet.Packet.{Packet}
 use Rattle.x25.proofs.Laid.{by-type, lcn-back}
 
@@ -53,7 +51,7 @@ facility-long f =
 
 -- the walk finds a facility, of each of the two forms
 classed-at : (code : ℕ) (params pre rest : List ℕ) (i : ℕ) → length pre ≡ i → code / 64 < 3 → length params ≡ code / 64 + 1
-    → fac_at (pre ++ (code ∷ (params ++ rest))) i ≡ Body (i + 1) (length params)
+    → fac_at (pre ++ (code ∷ (params ++ rest))) i ≡ body (i + 1) (length params)
 unfolding fac_at
 classed-at code params pre rest i q h l =
     let s : List ℕ = pre ++ (code ∷ (params ++ rest)) in
@@ -62,7 +60,7 @@ classed-at code params pre rest i q h l =
     simp (e, le-leb (code / 64) 2 (omega arith), ← l, le-leb (i + 1 + length params) (length s) (omega arith))
 
 counted-at : (code : ℕ) (params pre rest : List ℕ) (i : ℕ) → length pre ≡ i → 3 ≤ code / 64
-    → fac_at (pre ++ (code ∷ length params ∷ (params ++ rest))) i ≡ Body (i + 2) (length params)
+    → fac_at (pre ++ (code ∷ length params ∷ (params ++ rest))) i ≡ body (i + 2) (length params)
 unfolding fac_at
 counted-at code params pre rest i q h =
     let s : List ℕ = pre ++ (code ∷ length params ∷ (params ++ rest)) in
@@ -72,9 +70,9 @@ counted-at code params pre rest i q h =
     simp (e, d, lt-leb (code / 64) 2 (omega arith), lt-ltb (i + 1) (length s) (omega arith), le-leb (i + 2 + length params) (length s) (omega arith))
 
 facility-at : (f : Facility) → Right f → (pre rest : List ℕ) (i : ℕ) → length pre ≡ i
-    → fac_at (pre ++ (facility_laid f ++ rest)) i ≡ Body (i + behind f) (length f.params)
+    → fac_at (pre ++ (facility_laid f ++ rest)) i ≡ body (i + behind f) (length f.params)
 facility-at f r pre rest i q =
-    on_test (λ (b : Bool). fac_at (pre ++ (pick b (f.code ∷ f.params) (f.code ∷ length f.params ∷ f.params) ++ rest)) i ≡ Body (i + pick b 1 2) (length f.params))
+    on_test (λ (b : Bool). fac_at (pre ++ (pick b (f.code ∷ f.params) (f.code ∷ length f.params ∷ f.params) ++ rest)) i ≡ body (i + pick b 1 2) (length f.params))
     (ltb (f.code / 64) 3)
     (λ e. classed-at f.code f.params pre rest i q (ltb-true _ _ e) (r.classed (ltb-true _ _ e)))
     (λ e. counted-at f.code f.params pre rest i q (ltb-false _ _ e))
@@ -97,7 +95,7 @@ module _ (base : ℕ) (s : List ℕ) where
       let n : length s ≡ i + (length (facility_laid f) + length rest) = ap length e ∙ simp (length-append, q) in
       let b : 1 ≤ behind f = on_test (λ (b : Bool). 1 ≤ pick b 1 2) (ltb (f.code / 64) 3) (λ e. omega arith) (λ e. omega arith) in
       let k : i + behind f + length f.params ≡ i + length (facility_laid f) = omega arith in
-      let c : fac_at s i ≡ Body (i + behind f) (length f.params) = rw e (facility-at f r pre rest i q) in
+      let c : fac_at s i ≡ body (i + behind f) (length f.params) = rw e (facility-at f r pre rest i q) in
       let d : get_or s i 0 ≡ f.code = rw e (code_at f pre rest i q) in
       turn (fac_step base s) ends more (length s) i (i + length (facility_laid f)) (found (base + i) f)
       (omega arith) (omega arith) (simp (c, d, k, ← add_assoc base i (behind f)))
@@ -173,7 +171,7 @@ pub data NoField (user : List ℕ) : Type 0 where
   past : length user < 2 + get_or user 1 0 → NoField user
   unknown : (get_or user 2 0 ≡ 1 → ⊥) → NoField user
 
-absent : (b : Bool) → pick b Absent Absent ≡ Absent
+absent : (b : Bool) → pick {A = Option Field} b None None ≡ None
 absent true = refl
 absent false = refl
 
@@ -184,7 +182,7 @@ module _ (s : List ℕ) (p : ℕ) (user : List ℕ) (d : drop p s ≡ user) (n :
   first-at : get_or s p 0 ≡ get_or user 0 0
   first-at = rw add-zero at (octet-at 0)
 
-  pub no_field : NoField user → field_at s p ≡ Absent
+  pub no_field : NoField user → field_at s p ≡ None
   unfolding field_at
   no_field (short h) = simp (lt-ltb (length s) (p + 2) (omega arith))
   no_field (other h) = simp (first-at, ne_eqb (get_or user 0 0) 0xC1 h, absent)
@@ -193,7 +191,7 @@ module _ (s : List ℕ) (p : ℕ) (user : List ℕ) (d : drop p s ≡ user) (n :
   no_field (unknown h) = simp (octet-at 2, ne_eqb (get_or user 2 0) 1 h, absent)
 
   pub field_found : (len a b o : ℕ) (more : List ℕ) → user ≡ 0xC1 ∷ len ∷ 1 ∷ a ∷ b ∷ o ∷ more → 4 ≤ len → len ≤ length more + 4
-      → field_at s p ≡ Found o (p + 2 + len)
+      → field_at s p ≡ Some (record { octet = o; end = p + 2 + len })
   unfolding field_at
   field_found len a b o more e h l =
       let u : (k : ℕ) → get_or user k 0 ≡ get_or (0xC1 ∷ len ∷ 1 ∷ a ∷ b ∷ o ∷ more) k 0 = λ k. ap (λ (z : List ℕ). get_or z k 0) e in
@@ -205,24 +203,24 @@ module _ (s : List ℕ) (p : ℕ) (user : List ℕ) (d : drop p s ≡ user) (n :
       simp (e0, e1, e2, e5, le-ltb (length s) (p + 2) (omega arith), le-ltb len 4 h, le-ltb (length s) (p + 2 + len) (omega arith))
 
   -- the octet there, for a call accept
-  octet-none : user ≡ [] → octet_at s p ≡ Nothing
+  octet-none : user ≡ [] → octet_at s p ≡ None
   octet-none e = simp (le-ltb p (length s) (omega (arith, ap length e)))
 
-  octet-some : (o : ℕ) (rest : List ℕ) → user ≡ o ∷ rest → octet_at s p ≡ Is o
+  octet-some : (o : ℕ) (rest : List ℕ) → user ≡ o ∷ rest → octet_at s p ≡ Some o
   octet-some o rest e = simp (lt-ltb p (length s) (omega (arith, ap length e)), first-at ∙ ap (λ (z : List ℕ). get_or z 0 0) e)
 
 -- ---- calls
 -- a call's packet, field by field
-abbrev pub call_of : ℕ → ℕ → ℕ → ℕ → Octet → ℕ → ℕ → Packet
+abbrev pub call_of : ℕ → ℕ → ℕ → ℕ → Option ℕ → ℕ → ℕ → Packet
 call_of kind lcn at len sndcf version pos = record {
   kind = kind;
   lcn = lcn;
-  ps = Nothing;
-  pr = Nothing;
+  ps = None;
+  pr = None;
   more = 0;
-  cause = Nothing;
+  cause = None;
   causetext = 0;
-  diagnostic = Nothing;
+  diagnostic = None;
   diagtext = 0;
   facat = at;
   faclen = len;
@@ -232,13 +230,13 @@ call_of kind lcn at len sndcf version pos = record {
 }
 
 -- the octets s are read as a call with the facilities fs at place at, whose payload is user, from place pos on
-pub record CallRead (s : List ℕ) (kind lcn at : ℕ) (fs : List Facility) (sndcf : Octet) (version pos : ℕ) (user : List ℕ) : Type 0 where
+pub record CallRead (s : List ℕ) (kind lcn at : ℕ) (fs : List Facility) (sndcf : Option ℕ) (version pos : ℕ) (user : List ℕ) : Type 0 where
   pub packet : packet_of s ≡ call_of kind lcn at (length (facilities_laid fs)) sndcf version pos
   pub payload : drop (packet_of s).payload s ≡ user
   pub facilities : fac_member s (packet_of s) ≡ in_list k_facilities (facilities_read at fs)
 
 call-read : {s : List ℕ} {lcn at : ℕ} {fs : List Facility} {all : List ℕ} → Parted s at (facilities_laid fs) all → AllRight fs → lcn_of s ≡ lcn
-    → (kind : ℕ) (sndcf : Octet) (version from pos k : ℕ) (user : List ℕ) → packet_of s ≡ call_with kind s sndcf version from
+    → (kind : ℕ) (sndcf : Option ℕ) (version from pos k : ℕ) (user : List ℕ) → packet_of s ≡ call_with kind s sndcf version from
     → min from (length s) ≡ pos → pos ≡ fac_end s + k → drop k all ≡ user → CallRead s kind lcn at fs sndcf version pos user
 call-read {s} {lcn} {at} {fs} p r v kind sndcf version from pos k user e m q d =
     let c : call_with kind s sndcf version from ≡ call_of kind lcn at (length (facilities_laid fs)) sndcf version pos =
@@ -267,7 +265,7 @@ module _ (qd g n : ℕ) (called calling : List ℕ) (fs : List Facility) (hg : g
   abbrev user_at : ℕ
   user_at = facilities_at called calling + length (facilities_laid fs)
 
-  abbrev Read : List ℕ → ℕ → Octet → ℕ → ℕ → List ℕ → Type 0
+  abbrev Read : List ℕ → ℕ → Option ℕ → ℕ → ℕ → List ℕ → Type 0
   Read s kind sndcf version pos user = CallRead s kind (g * 256 + n) (facilities_at called calling) fs sndcf version pos user
 
   module _ (user : List ℕ) where
@@ -287,43 +285,43 @@ module _ (qd g n : ℕ) (called calling : List ℕ) (fs : List Facility) (hg : g
     accepted-is : packet_of (call 0x0F user) ≡ call_with t_call_accepted (call 0x0F user) (octet_at (call 0x0F user) (fac_end (call 0x0F user))) 0 (fac_end (call 0x0F user) + 1)
     accepted-is = by-type qd g n 0x0F rest hg ∙ accepted-type (call 0x0F user) (parts 0x0F).has
 
-    pub call_no_field : NoField user → field_at (call 0x0B user) (fac_end (call 0x0B user)) ≡ Absent
+    pub call_no_field : NoField user → field_at (call 0x0B user) (fac_end (call 0x0B user)) ≡ None
     call_no_field f = no_field (call 0x0B user) (fac_end (call 0x0B user)) user (parts 0x0B).rest (parts 0x0B).size f
 
-    module _ (absent : field_at (call 0x0B user) (fac_end (call 0x0B user)) ≡ Absent) where
-      pub call-request-with : packet_of (call 0x0B user) ≡ call_with t_call_request (call 0x0B user) Nothing 0 (fac_end (call 0x0B user))
+    module _ (absent : field_at (call 0x0B user) (fac_end (call 0x0B user)) ≡ None) where
+      pub call-request-with : packet_of (call 0x0B user) ≡ call_with t_call_request (call 0x0B user) None 0 (fac_end (call 0x0B user))
       call-request-with = request-is ∙ ap (with_field (call 0x0B user)) absent
 
-      pub call-request-read : Read (call 0x0B user) t_call_request Nothing 0 user_at user
+      pub call-request-read : Read (call 0x0B user) t_call_request None 0 user_at user
       call-request-read =
           let p = parts 0x0B in
-          call-read p r (lcn-is 0x0B) t_call_request Nothing 0 (fac_end (call 0x0B user)) user_at 0 user
+          call-read p r (lcn-is 0x0B) t_call_request None 0 (fac_end (call 0x0B user)) user_at 0 user
           call-request-with (omega (arith, p.size, p.end)) (omega (arith, p.end)) refl
 
   -- user data that look like a compression field are taken for one
   pub call-field-read : (len a b o : ℕ) (more : List ℕ) → 4 ≤ len → len ≤ length more + 4
-      → Read (call 0x0B (0xC1 ∷ len ∷ 1 ∷ a ∷ b ∷ o ∷ more)) t_call_request (Is o) 1 (user_at + 2 + len) (drop (len - 4) more)
+      → Read (call 0x0B (0xC1 ∷ len ∷ 1 ∷ a ∷ b ∷ o ∷ more)) t_call_request (Some o) 1 (user_at + 2 + len) (drop (len - 4) more)
   call-field-read len a b o more h l =
       let user : List ℕ = 0xC1 ∷ len ∷ 1 ∷ a ∷ b ∷ o ∷ more in
       let s : List ℕ = call 0x0B user in
       let p = parts user 0x0B in
-      call-read p r (lcn-is user 0x0B) t_call_request (Is o) 1 (fac_end s + 2 + len) (user_at + 2 + len) (suc (suc (suc (suc (suc (suc (len - 4))))))) (drop (len - 4) more)
+      call-read p r (lcn-is user 0x0B) t_call_request (Some o) 1 (fac_end s + 2 + len) (user_at + 2 + len) (suc (suc (suc (suc (suc (suc (len - 4))))))) (drop (len - 4) more)
       (request-is user ∙ ap (with_field s) (field_found s (fac_end s) user p.rest p.size len a b o more refl h l))
       (omega (arith, p.size, p.end)) (omega (arith, p.end)) refl
 
-  pub call_accept_read : Read (call 0x0F []) t_call_accepted Nothing 0 user_at []
+  pub call_accept_read : Read (call 0x0F []) t_call_accepted None 0 user_at []
   call_accept_read =
       let s : List ℕ = call 0x0F [] in
       let p = parts [] 0x0F in
-      call-read p r (lcn-is [] 0x0F) t_call_accepted Nothing 0 (fac_end s + 1) user_at 0 []
-      (accepted-is [] ∙ ap (λ (x : Octet). call_with t_call_accepted s x 0 (fac_end s + 1)) (octet-none s (fac_end s) [] p.rest p.size refl))
+      call-read p r (lcn-is [] 0x0F) t_call_accepted None 0 (fac_end s + 1) user_at 0 []
+      (accepted-is [] ∙ ap (λ (x : Option ℕ). call_with t_call_accepted s x 0 (fac_end s + 1)) (octet-none s (fac_end s) [] p.rest p.size refl))
       (omega (arith, p.size, p.end)) (omega (arith, p.end)) refl
 
   -- the first octet of user data is taken for the compression octet
-  pub call_accept_octet : (o : ℕ) (rest : List ℕ) → Read (call 0x0F (o ∷ rest)) t_call_accepted (Is o) 0 (user_at + 1) rest
+  pub call_accept_octet : (o : ℕ) (rest : List ℕ) → Read (call 0x0F (o ∷ rest)) t_call_accepted (Some o) 0 (user_at + 1) rest
   call_accept_octet o rest =
       let s : List ℕ = call 0x0F (o ∷ rest) in
       let p = parts (o ∷ rest) 0x0F in
-      call-read p r (lcn-is (o ∷ rest) 0x0F) t_call_accepted (Is o) 0 (fac_end s + 1) (user_at + 1) 1 rest
-      (accepted-is (o ∷ rest) ∙ ap (λ (x : Octet). call_with t_call_accepted s x 0 (fac_end s + 1)) (octet-some s (fac_end s) (o ∷ rest) p.rest p.size o rest refl))
+      call-read p r (lcn-is (o ∷ rest) 0x0F) t_call_accepted (Some o) 0 (fac_end s + 1) (user_at + 1) 1 rest
+      (accepted-is (o ∷ rest) ∙ ap (λ (x : Option ℕ). call_with t_call_accepted s x 0 (fac_end s + 1)) (octet-some s (fac_end s) (o ∷ rest) p.rest p.size o rest refl))
       (omega (arith, p.size, p.end)) (omega (arith, p.end)) refl

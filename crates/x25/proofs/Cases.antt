@@ -1,4 +1,5 @@
 -- What holds of every kind of packet holds of the packet that is read.
+use Rattle.std.specs.Prelude.{Option, Some, None}
 use Prim.Native.Nat.{ℕ, ◌+◌, ◌/◌, ◌%◌, ◌≤◌, ◌<◌}
 use mathlib.Core.Path.{◌≡◌, refl}
 use mathlib.Core.List.{List}
@@ -14,9 +15,6 @@ use Rattle.codes.specs.Codes.{Row, clear_causes, reset_causes, restart_causes}
 use Rattle.x25.specs.Sndcf.{field_at}
 use Rattle.x25.specs.Packet.{octet_at, plain, unreadable, lcn_of, data_of, received, request_of, diagnostic_of, fac_pos, fac_end, fac_read, call_with, has_facilities, with_field, call_request, call_accepted, by_type, packet_of}
 use Rattle.x25.specs.declared.sndcf.Field.{Field}
-use Rattle.x25.specs.declared.sndcf.Field.TheVariants.{Absent, Found}
-use Rattle.x25.specs.declared.packet.Octet.{Octet}
-use Rattle.x25.specs.declared.packet.Octet.TheVariants.{Nothing, Is}
 use Rattle.x25.specs.declared.packet.Packet.{Packet}
 use Rattle.x25.proofs.ByType.{has-length}
 
@@ -29,16 +27,16 @@ pub record Held (s : List ℕ) (v : ℕ) : Type 0 where
   pub place : ℕ
   pub is : v ≡ get_or s place 0
 
-abbrev pub From : List ℕ → Octet → Type 0
-From s Nothing = Unit
-From s (Is v) = Held s v
+abbrev pub From : List ℕ → Option ℕ → Type 0
+From s None = Unit
+From s (Some v) = Held s v
 
 pub octet-from : (s : List ℕ) (i : ℕ) → From s (octet_at s i)
 octet-from s i = pick_elim (From s) (ltb i (length s)) (λ h. record { place = i; is = refl }) (λ h. tt)
 
-abbrev FieldFrom : List ℕ → Field → Type 0
-FieldFrom s Absent = Unit
-FieldFrom s (Found o end) = Held s o
+abbrev FieldFrom : List ℕ → Option Field → Type 0
+FieldFrom s None = Unit
+FieldFrom s (Some f) = Held s f.octet
 
 field-from : (s : List ℕ) (p : ℕ) → FieldFrom s (field_at s p)
 unfolding field_at
@@ -52,10 +50,10 @@ field-from s p =
 module _ (P : Packet → Type 0) (s : List ℕ) (nothing : P (unreadable (length s))) (data-packet : 2 < length s → P (data_of s (get_or s 2 0)))
     (bare : (k : ℕ) → Named k → P (plain k (lcn_of s) (length s))) (counted : (k : ℕ) → Named k → P (received k s (get_or s 2 0)))
     (request : (k : ℕ) (rows : List Row) → Named k → P (request_of k rows s)) (told : P (diagnostic_of s))
-    (call : (k : ℕ) → Named k → has_facilities s ≡ true → (o : Octet) → From s o → (v pos : ℕ) → v ≤ 1 → P (call_with k s o v pos)) where
-  with-field : (f : Field) → FieldFrom s f → has_facilities s ≡ true → P (with_field s f)
-  with-field Absent g h = call t_call_request (omega arith, omega arith) h Nothing tt 0 (fac_end s) (omega arith)
-  with-field (Found o end) g h = call t_call_request (omega arith, omega arith) h (Is o) g 1 end (omega arith)
+    (call : (k : ℕ) → Named k → has_facilities s ≡ true → (o : Option ℕ) → From s o → (v pos : ℕ) → v ≤ 1 → P (call_with k s o v pos)) where
+  with-field : (f : Option Field) → FieldFrom s f → has_facilities s ≡ true → P (with_field s f)
+  with-field None g h = call t_call_request (omega arith, omega arith) h None tt 0 (fac_end s) (omega arith)
+  with-field (Some f) g h = call t_call_request (omega arith, omega arith) h (Some f.octet) g 1 f.end (omega arith)
 
   requested : P (call_request s)
   requested = pick_elim P (has_facilities s) (with-field (field_at s (fac_end s)) (field-from s (fac_end s))) (λ h. bare t_call_request (omega arith, omega arith))

@@ -1,4 +1,5 @@
 -- Packets that are laid out as X.25 draws them, calls apart, are read as what was laid out.
+use Rattle.std.specs.Prelude.{Some, None}
 use Prim.Native.Nat.{ℕ, ◌+◌, ◌*◌, ◌/◌, ◌%◌, ◌≤◌, ◌<◌}
 use mathlib.Core.Bool.{false}
 use mathlib.Core.List.{List, [], ◌∷◌}
@@ -13,7 +14,6 @@ use Rattle.names.specs.Numbers.{t_data, t_clear_request, t_reset_request, t_rest
 use Rattle.codes.specs.Codes.{Row, text_in, clear_causes, reset_causes, restart_causes, diagnostics}
 use Rattle.x25.specs.Packet.{plain, unreadable, lcn_of, received, request_of, by_type, packet_of}
 use Rattle.x25.specs.Layout.{head, sequence, data_laid, numbered_laid, request_laid, confirmation_laid, diagnostic_laid}
-use Rattle.x25.specs.declared.packet.Octet.TheVariants.{Nothing, Is}
 use Rattle.x25.specs.declared.packet.Packet.{Packet}
 
 -- the fields of a sequence part, at any modulus
@@ -58,16 +58,16 @@ module _ (qd g n : ℕ) (hg : g < 16) where
       → packet_of (data_laid qd g n pr more ps user) ≡ record {
         kind = t_data;
         lcn = g * 256 + n;
-        ps = Is ps;
-        pr = Is pr;
+        ps = Some ps;
+        pr = Some pr;
         more = more;
-        cause = Nothing;
+        cause = None;
         causetext = 0;
-        diagnostic = Nothing;
+        diagnostic = None;
         diagtext = 0;
         facat = 0;
         faclen = 0;
-        sndcf = Nothing;
+        sndcf = None;
         version = 0;
         payload = 3;
       }
@@ -123,16 +123,16 @@ pub numbered-read : {code kind : ℕ} → Numbered code kind → (qd g n pr : �
     → packet_of (numbered_laid qd g n pr code) ≡ record {
       kind = kind;
       lcn = g * 256 + n;
-      ps = Nothing;
-      pr = Is pr;
+      ps = None;
+      pr = Some pr;
       more = 0;
-      cause = Nothing;
+      cause = None;
       causetext = 0;
-      diagnostic = Nothing;
+      diagnostic = None;
       diagtext = 0;
       facat = 0;
       faclen = 0;
-      sndcf = Nothing;
+      sndcf = None;
       version = 0;
       payload = 3;
     }
@@ -159,16 +159,16 @@ abbrev pub asked : ℕ → List Row → ℕ → ℕ → ℕ → ℕ → Packet
 asked kind rows lcn cause diagnostic n = record {
   kind = kind;
   lcn = lcn;
-  ps = Nothing;
-  pr = Nothing;
+  ps = None;
+  pr = None;
   more = 0;
-  cause = Is cause;
+  cause = Some cause;
   causetext = text_in rows [] cause;
-  diagnostic = Is diagnostic;
+  diagnostic = Some diagnostic;
   diagtext = text_in diagnostics [] diagnostic;
   facat = 0;
   faclen = 0;
-  sndcf = Nothing;
+  sndcf = None;
   version = 0;
   payload = n;
 }
@@ -212,16 +212,16 @@ pub diagnostic-read : (qd g n code : ℕ) (explanation : List ℕ) → g < 16
     → packet_of (diagnostic_laid qd g n code explanation) ≡ record {
       kind = t_diagnostic;
       lcn = g * 256 + n;
-      ps = Nothing;
-      pr = Nothing;
+      ps = None;
+      pr = None;
       more = 0;
-      cause = Nothing;
+      cause = None;
       causetext = 0;
-      diagnostic = Is code;
+      diagnostic = Some code;
       diagtext = text_in diagnostics [] code;
       facat = 0;
       faclen = 0;
-      sndcf = Nothing;
+      sndcf = None;
       version = 0;
       payload = length (diagnostic_laid qd g n code explanation);
     }

@@ -1,4 +1,5 @@
 -- The numbers of a packet fit the cells of its record.
+use Rattle.std.specs.Prelude.{Option, Some, None}
 use Prim.Native.Nat.{ℕ, ◌≤◌, ◌<◌}
 use mathlib.Core.List.{List, []}
 use native.Mathlib.Omega.{arith}
@@ -9,24 +10,22 @@ use Rattle.names.specs.Numbers.{last_text}
 use Rattle.codes.specs.Codes.{Row, diagnostics}
 use Rattle.codes.proofs.Lows.{text-low}
 use Rattle.x25.specs.Packet.{octet_at, plain, unreadable, lcn_of, data_of, received, cause_in, text_of, request_of, diagnostic_of, call_with, packet_of}
-use Rattle.x25.specs.declared.packet.Octet.{Octet}
-use Rattle.x25.specs.declared.packet.Octet.TheVariants.{Nothing, Is}
 use Rattle.x25.specs.declared.packet.Packet.{Packet}
 use Rattle.x25.proofs.Cases.{From, octet-from, every}
 
 -- ---- text numbers are listed
-text_of_low : (rows : List Row) (o : Octet) → text_of rows o ≤ last_text
-text_of_low rows Nothing = omega arith
-text_of_low rows (Is c) = text-low rows [] c
+text_of_low : (rows : List Row) (o : Option ℕ) → text_of rows o ≤ last_text
+text_of_low rows None = omega arith
+text_of_low rows (Some c) = text-low rows [] c
 
 -- ---- numbers fit
-abbrev pub Low : Octet → Type 0
-Low Nothing = Unit
-Low (Is v) = v < 4294967296
+abbrev pub Low : Option ℕ → Type 0
+Low None = Unit
+Low (Some v) = v < 4294967296
 
-cause-low : (o : Octet) → Low o → Low (cause_in o)
-cause-low Nothing h = tt
-cause-low (Is raw) h = pick_elim (λ (v : ℕ). v < 4294967296) (ltb raw 128) (λ e. h) (λ e. omega arith)
+cause-low : (o : Option ℕ) → Low o → Low (cause_in o)
+cause-low None h = tt
+cause-low (Some raw) h = pick_elim (λ (v : ℕ). v < 4294967296) (ltb raw 128) (λ e. h) (λ e. omega arith)
 
 pub record Numbers (x : Packet) : Type 0 where
   pub lcn-low : x.lcn < 4294967296
@@ -42,9 +41,9 @@ pub record Numbers (x : Packet) : Type 0 where
   pub version_low : x.version < 4294967296
 
 module _ (s : List ℕ) (small : (i : ℕ) → get_or s i 0 < 256) where
-  from_low : (o : Octet) → From s o → Low o
-  from_low Nothing h = tt
-  from_low (Is v) h = omega (arith, h.is, small h.place)
+  from_low : (o : Option ℕ) → From s o → Low o
+  from_low None h = tt
+  from_low (Some v) h = omega (arith, h.is, small h.place)
 
   octet-low : (i : ℕ) → Low (octet_at s i)
   octet-low i = from_low (octet_at s i) (octet-from s i)
@@ -70,7 +69,7 @@ module _ (s : List ℕ) (small : (i : ℕ) → get_or s i 0 < 256) where
   told-fits : Numbers (diagnostic_of s)
   told-fits = record { lcn-low = channel_low; named = omega arith; ps-low = tt; pr-low = tt; more-low = omega arith; cause-fits = tt; causetext-low = omega arith; diagnostic-low = octet-low 3; diagtext-low = text_of_low diagnostics (octet_at s 3); sndcf-low = tt; version_low = omega arith }
 
-  call_fits : (k : ℕ) → k ≤ last_text → (o : Octet) → From s o → (v pos : ℕ) → v ≤ 1 → Numbers (call_with k s o v pos)
+  call_fits : (k : ℕ) → k ≤ last_text → (o : Option ℕ) → From s o → (v pos : ℕ) → v ≤ 1 → Numbers (call_with k s o v pos)
   call_fits k h o f v pos u = record { lcn-low = channel_low; named = h; ps-low = tt; pr-low = tt; more-low = omega arith; cause-fits = tt; causetext-low = omega arith; diagnostic-low = tt; diagtext-low = omega arith; sndcf-low = from_low o f; version_low = omega arith }
 
   pub numbers : Numbers (packet_of s)

@@ -1,4 +1,5 @@
 -- How many cells a packet's record has at most, so that an output with that many is never short.
+use Rattle.std.specs.Prelude.{Option, Some, None}
 use Prim.Native.Nat.{ℕ, ◌+◌, ◌*◌, ◌/◌, ◌%◌, ◌≤◌}
 use mathlib.Core.Path.{◌≡◌, ap}
 use mathlib.Core.List.{List}
@@ -17,15 +18,13 @@ use Rattle.fields.proofs.Sizes.{size, rows, empty, one, text-thin, part-thin}
 use Rattle.x25.specs.Facility.{fac_items}
 use Rattle.x25.specs.Sndcf.{algorithm, algorithms, version_member, sndcf_member}
 use Rattle.x25.specs.Packet.{opt_number, opt_sndcf, fac_member, members_of, packet_of, x25_cells, x25_answer}
-use Rattle.x25.specs.declared.packet.Octet.{Octet}
-use Rattle.x25.specs.declared.packet.Octet.TheVariants.{Nothing, Is}
 use Rattle.x25.specs.declared.packet.Packet.{Packet}
 use Rattle.x25.proofs.Facilities.{fac_thin}
 use Rattle.x25.proofs.Members.{head_of, causes_of, calls_of, members_are}
 
-number-thin : (f : ℕ) (o : Octet) → size 1 (opt_number f o) ≤ 1
-number-thin f Nothing = omega (arith, empty 1)
-number-thin f (Is v) = omega (arith, one 1 f (number v))
+number-thin : (f : ℕ) (o : Option ℕ) → size 1 (opt_number f o) ≤ 1
+number-thin f None = omega (arith, empty 1)
+number-thin f (Some v) = omega (arith, one 1 f (number v))
 
 algorithm-thin : (bit t : ℕ) → size 3 (algorithm bit t) ≤ 1
 algorithm-thin bit t = pick_elim (λ (x : Items). size 3 x ≤ 1) (eqb bit 1) (λ h. omega (arith, one 3 0 (text t))) (λ h. omega (arith, empty 3))
@@ -60,9 +59,9 @@ sndcf-thin o v =
       version-thin v,
     )
 
-negotiated_thin : (o : Octet) (v : ℕ) → size 1 (opt_sndcf o v) ≤ 11
-negotiated_thin Nothing v = omega (arith, empty 1)
-negotiated_thin (Is o) v = sndcf-thin o v
+negotiated_thin : (o : Option ℕ) (v : ℕ) → size 1 (opt_sndcf o v) ≤ 11
+negotiated_thin None v = omega (arith, empty 1)
+negotiated_thin (Some o) v = sndcf-thin o v
 
 fac_member_thin : (s : List ℕ) (x : Packet) → size 1 (fac_member s x) ≤ 2 * length s + 2
 fac_member_thin s x =

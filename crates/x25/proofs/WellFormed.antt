@@ -1,4 +1,5 @@
 -- The cells of a readable packet read back as its record.
+use Rattle.std.specs.Prelude.{Option, Some, None}
 use Prim.Native.Nat.{ℕ, ◌+◌, ◌/◌, ◌%◌, ◌≤◌, ◌<◌}
 use mathlib.Core.Path.{◌≡◌, refl, sym, ap, subst, ◌∙◌}
 use mathlib.Core.List.{List}
@@ -13,8 +14,7 @@ use Rattle.cells.specs.Items.{Items, none, leaf, flag, ◌⊕◌}
 use Rattle.cells.specs.Read.{items_of}
 use Rattle.cells.specs.Good.{Key, GoodRow, Good}
 use Rattle.cells.specs.Walk.{step_of}
-use Rattle.cells.specs.declared.entry.Entry.{Entry}
-use Rattle.cells.specs.declared.entry.Entry.TheVariants.{Stop, Body}
+use Rattle.cells.specs.declared.entry.Body.{Body}
 use Rattle.cells.proofs.Rows.{good-⊕, good_in_list}
 use Rattle.cells.proofs.Walks.{Each, all}
 use Rattle.cells.proofs.WellFormed.{reads-back}
@@ -23,8 +23,6 @@ use Rattle.fields.proofs.Goods.{text-good, take-small, drop-small}
 use Rattle.x25.specs.Facility.{fac_at, facility, fac_step, fac_items}
 use Rattle.x25.specs.Sndcf.{algorithm, algorithms, version_member, sndcf_member}
 use Rattle.x25.specs.Packet.{opt_number, opt_sndcf, fac_member, members_of, packet_of, x25_cells}
-use Rattle.x25.specs.declared.packet.Octet.{Octet}
-use Rattle.x25.specs.declared.packet.Octet.TheVariants.{Nothing, Is}
 use Rattle.x25.specs.declared.packet.Packet.{Packet}
 use Rattle.x25.proofs.Facilities.{Within, fac_within}
 use Rattle.x25.proofs.Members.{head_of, causes_of, calls_of, members_are}
@@ -38,21 +36,21 @@ module _ (n : ℕ) where
   good c = GoodRow n false 2 c
 
   module _ (base : ℕ) (s : List ℕ) (h : base + length s ≤ n) (small : (i : ℕ) → get_or s i 0 < 256) where
-    each : (i : ℕ) (e : Entry) → Within (length s) i e
+    each : (i : ℕ) (e : Option Body) → Within (length s) i e
         → Each (fac_step base s) (λ k. none) ◌⊕◌ (length s) good good (λ k. tt) (λ c r q g. good-⊕ n false 2 c r q g) (step_of (λ start len. facility (get_or s i 0) (base + start) len) e)
-    each i Stop w = tt
-    each i (Body start len) w =
+    each i None w = tt
+    each i (Some b) w =
         let k : Key true 46 = (omega arith, omega arith) in
         let l : Key true 47 = (omega arith, omega arith) in
-        let m : base + start + len ≤ n = omega (arith, w.1) in
+        let m : base + b.start + b.len ≤ n = omega (arith, w.1) in
         (omega arith, refl, (omega arith, k, small i, (omega arith, l, m, tt)), tt)
 
     fac_good : GoodRow n false 2 (fac_items base s)
     fac_good = all (fac_step base s) (λ k. none) ◌⊕◌ (length s) good good (λ k. tt) (λ c r q g. good-⊕ n false 2 c r q g) (λ i l. each i (fac_at s i) (fac_within s i))
 
-  number-good : (f : ℕ) (o : Octet) → Key true f → Low o → GoodRow n true 1 (opt_number f o)
-  number-good f Nothing k h = tt
-  number-good f (Is v) k h = (omega arith, k, h, tt)
+  number-good : (f : ℕ) (o : Option ℕ) → Key true f → Low o → GoodRow n true 1 (opt_number f o)
+  number-good f None k h = tt
+  number-good f (Some v) k h = (omega arith, k, h, tt)
 
   algorithm-good : (bit t : ℕ) → 0 < t → t ≤ last_text → GoodRow n false 3 (algorithm bit t)
   algorithm-good bit t p h = pick_elim (GoodRow n false 3) (eqb bit 1) (λ e. (omega arith, refl, (p, h), tt)) (λ e. tt)
@@ -79,9 +77,9 @@ module _ (n : ℕ) where
         tt,
       )
 
-  negotiated_good : (o : Octet) (v : ℕ) → Low o → v < 4294967296 → GoodRow n true 1 (opt_sndcf o v)
-  negotiated_good Nothing v h g = tt
-  negotiated_good (Is o) v h g = sndcf-good o v h g
+  negotiated_good : (o : Option ℕ) (v : ℕ) → Low o → v < 4294967296 → GoodRow n true 1 (opt_sndcf o v)
+  negotiated_good None v h g = tt
+  negotiated_good (Some o) v h g = sndcf-good o v h g
 
 module _ (s : List ℕ) (small : (i : ℕ) → get_or s i 0 < 256) (readable : (packet_of s).kind ≡ 0 → ⊥) where
   abbrev x : Packet

@@ -1,22 +1,21 @@
 -- The facilities of a call packet: `parse_facilities`.
-use Rattle.std.specs.Prelude.{ℕ, ◌+◌, ◌/◌, true, List, ltb, leb, length, get_or}
+use Rattle.std.specs.Prelude.{ℕ, ◌+◌, ◌/◌, true, Option, None, List, ltb, leb, length, get_or}
 use Rattle.octets.specs.Text.{pick}
 use Rattle.names.specs.Numbers.{k_code, k_params}
 use Rattle.cells.specs.Items.{Items, none, leaf, group, octet, part}
-use Rattle.cells.specs.Walk.{Step, step_of, items_from, left_from}
-use Rattle.cells.specs.declared.entry.Entry.{Entry}
-use Rattle.cells.specs.declared.entry.Entry.TheVariants.{Stop, Body}
+use Rattle.cells.specs.Walk.{Step, step_of, body, items_from, left_from}
+use Rattle.cells.specs.declared.entry.Body.{Body}
 
 -- parameters of n octets from start on, if the part has them
-abbrev pub body_at : List ℕ → ℕ → ℕ → Entry
-body_at s start n = pick (leb (start + n) (length s)) (Body start n) Stop
+abbrev pub body_at : List ℕ → ℕ → ℕ → Option Body
+body_at s start n = pick (leb (start + n) (length s)) (body start n) None
 
 -- the code's class, its top two bits, says how many octets of parameters follow: one, two, three, or as many as an octet
 -- between them and the code says
-unfoldable pub fac_at : List ℕ → ℕ → Entry
+unfoldable pub fac_at : List ℕ → ℕ → Option Body
 fac_at s i =
     pick (leb (get_or s i 0 / 64) 2) (body_at s (i + 1) (get_or s i 0 / 64 + 1))
-    (pick (ltb (i + 1) (length s)) (body_at s (i + 2) (get_or s (i + 1) 0)) Stop)
+    (pick (ltb (i + 1) (length s)) (body_at s (i + 2) (get_or s (i + 1) 0)) None)
 
 -- one facility, whose parameters have this place in the input
 abbrev pub facility : ℕ → ℕ → ℕ → Items

@@ -1,40 +1,36 @@
 -- `parse_x25`: what an X.25 packet's octets say, and its record.
-use Rattle.std.specs.Prelude.{ℕ, ◌+◌, ◌/◌, ◌%◌, min, Bool, ◌&&◌, List, [], ltb, leb, eqb, length, get_or, take, drop}
+use Rattle.std.specs.Prelude.{ℕ, ◌+◌, ◌/◌, ◌%◌, min, Bool, ◌&&◌, Option, Some, None, Ok, Err, List, [], ltb, leb, eqb, length, get_or, take, drop}
 use Rattle.octets.specs.Text.{pick}
 use Rattle.octets.specs.Read.{be16}
 use Rattle.names.specs.Numbers.{k_lcn, k_kind, k_ps, k_pr, k_more, k_cause, k_cause_text, k_diagnostic, k_diagnostic_text, k_facilities, t_data, t_call_request, t_call_accepted, t_clear_request, t_reset_request, t_restart_request, t_clear_confirmation, t_reset_confirmation, t_restart_confirmation, t_diagnostic, t_rr, t_rnr, t_rej}
 use Rattle.codes.specs.Codes.{Row, text_in, clear_causes, reset_causes, restart_causes, diagnostics}
 use Rattle.cells.specs.Items.{Items, none, leaf, number, flag, text, record_of, in_list, flat, ◌⊕◌}
-use Rattle.cells.specs.Answer.{answer_to, number_of}
-use Rattle.cells.specs.declared.answer.Answer.{Answer}
+use Rattle.cells.specs.Answer.{Answer, answer_to, number_of}
 use Rattle.fields.specs.Member.{opt_text}
 use Rattle.x25.specs.Facility.{fac_items}
 use Rattle.x25.specs.Sndcf.{field_at, sndcf_member}
 use Rattle.x25.specs.declared.sndcf.Field.{Field}
-use Rattle.x25.specs.declared.sndcf.Field.TheVariants.{Absent, Found}
-use Rattle.x25.specs.declared.packet.Octet.{Octet}
-use Rattle.x25.specs.declared.packet.Octet.TheVariants.{Nothing, Is}
 use Rattle.x25.specs.declared.packet.Packet.{Packet}
 
 -- `b.get(i)`
-abbrev pub octet_at : List ℕ → ℕ → Octet
-octet_at s i = pick (ltb i (length s)) (Is (get_or s i 0)) Nothing
+abbrev pub octet_at : List ℕ → ℕ → Option ℕ
+octet_at s i = pick (ltb i (length s)) (Some (get_or s i 0)) None
 
 -- a packet of a kind on a channel with nothing else, whose payload is the empty part at the end n; kind 0 is the Rust's None
 abbrev pub plain : ℕ → ℕ → ℕ → Packet
 plain kind lcn n = record {
   kind = kind;
   lcn = lcn;
-  ps = Nothing;
-  pr = Nothing;
+  ps = None;
+  pr = None;
   more = 0;
-  cause = Nothing;
+  cause = None;
   causetext = 0;
-  diagnostic = Nothing;
+  diagnostic = None;
   diagtext = 0;
   facat = 0;
   faclen = 0;
-  sndcf = Nothing;
+  sndcf = None;
   version = 0;
   payload = n;
 }
@@ -51,16 +47,16 @@ abbrev pub data_of : List ℕ → ℕ → Packet
 data_of s t = record {
   kind = t_data;
   lcn = lcn_of s;
-  ps = Is (t / 2 % 8);
-  pr = Is (t / 32);
+  ps = Some (t / 2 % 8);
+  pr = Some (t / 32);
   more = t / 16 % 2;
-  cause = Nothing;
+  cause = None;
   causetext = 0;
-  diagnostic = Nothing;
+  diagnostic = None;
   diagtext = 0;
   facat = 0;
   faclen = 0;
-  sndcf = Nothing;
+  sndcf = None;
   version = 0;
   payload = 3;
 }
@@ -69,29 +65,29 @@ abbrev pub received : ℕ → List ℕ → ℕ → Packet
 received kind s t = record {
   kind = kind;
   lcn = lcn_of s;
-  ps = Nothing;
-  pr = Is (t / 32);
+  ps = None;
+  pr = Some (t / 32);
   more = 0;
-  cause = Nothing;
+  cause = None;
   causetext = 0;
-  diagnostic = Nothing;
+  diagnostic = None;
   diagtext = 0;
   facat = 0;
   faclen = 0;
-  sndcf = Nothing;
+  sndcf = None;
   version = 0;
   payload = length s;
 }
 
 -- ---- clear, reset and restart requests, and diagnostics
 -- a cause with its top bit set is the remote side's own: 0
-abbrev pub cause_in : Octet → Octet
-cause_in Nothing = Nothing
-cause_in (Is raw) = Is (pick (ltb raw 128) raw 0)
+abbrev pub cause_in : Option ℕ → Option ℕ
+cause_in None = None
+cause_in (Some raw) = Some (pick (ltb raw 128) raw 0)
 
-abbrev pub text_of : List Row → Octet → ℕ
-text_of rows Nothing = 0
-text_of rows (Is c) = text_in rows [] c
+abbrev pub text_of : List Row → Option ℕ → ℕ
+text_of rows None = 0
+text_of rows (Some c) = text_in rows [] c
 
 abbrev pub request_of : ℕ → List Row → List ℕ → Packet
 request_of kind rows s =
@@ -100,8 +96,8 @@ request_of kind rows s =
     record {
       kind = kind;
       lcn = lcn_of s;
-      ps = Nothing;
-      pr = Nothing;
+      ps = None;
+      pr = None;
       more = 0;
       cause = cause;
       causetext = text_of rows cause;
@@ -109,7 +105,7 @@ request_of kind rows s =
       diagtext = text_of diagnostics diagnostic;
       facat = 0;
       faclen = 0;
-      sndcf = Nothing;
+      sndcf = None;
       version = 0;
       payload = length s;
     }
@@ -118,16 +114,16 @@ abbrev pub diagnostic_of : List ℕ → Packet
 diagnostic_of s = record {
   kind = t_diagnostic;
   lcn = lcn_of s;
-  ps = Nothing;
-  pr = Nothing;
+  ps = None;
+  pr = None;
   more = 0;
-  cause = Nothing;
+  cause = None;
   causetext = 0;
   diagnostic = octet_at s 3;
   diagtext = text_of diagnostics (octet_at s 3);
   facat = 0;
   faclen = 0;
-  sndcf = Nothing;
+  sndcf = None;
   version = 0;
   payload = length s;
 }
@@ -147,16 +143,16 @@ fac_end s = fac_pos s + 1 + fac_len s
 abbrev pub fac_read : List ℕ → ℕ
 fac_read s = pick (leb (fac_end s) (length s)) (fac_len s) 0
 
-abbrev pub call_with : ℕ → List ℕ → Octet → ℕ → ℕ → Packet
+abbrev pub call_with : ℕ → List ℕ → Option ℕ → ℕ → ℕ → Packet
 call_with kind s sndcf version pos = record {
   kind = kind;
   lcn = lcn_of s;
-  ps = Nothing;
-  pr = Nothing;
+  ps = None;
+  pr = None;
   more = 0;
-  cause = Nothing;
+  cause = None;
   causetext = 0;
-  diagnostic = Nothing;
+  diagnostic = None;
   diagtext = 0;
   facat = fac_pos s + 1;
   faclen = fac_read s;
@@ -169,9 +165,9 @@ call_with kind s sndcf version pos = record {
 abbrev pub has_facilities : List ℕ → Bool
 has_facilities s = ltb 3 (length s) && ltb (fac_pos s) (length s)
 
-abbrev pub with_field : List ℕ → Field → Packet
-with_field s Absent = call_with t_call_request s Nothing 0 (fac_end s)
-with_field s (Found o end) = call_with t_call_request s (Is o) 1 end
+abbrev pub with_field : List ℕ → Option Field → Packet
+with_field s None = call_with t_call_request s None 0 (fac_end s)
+with_field s (Some f) = call_with t_call_request s (Some f.octet) 1 f.end
 
 abbrev pub call_request : List ℕ → Packet
 call_request s = pick (has_facilities s) (with_field s (field_at s (fac_end s))) (plain t_call_request (lcn_of s) (length s))
@@ -204,14 +200,21 @@ packet_of s =
     pick (ltb (length s) 3) (unreadable (length s))
     (pick (eqb (get_or s 0 0 / 16 % 4) 1) (by_type s (get_or s 2 0)) (unreadable (length s)))
 
--- ---- the record, its members in the order of the Rust's X25Packet
-abbrev pub opt_number : ℕ → Octet → Items
-opt_number f Nothing = none
-opt_number f (Is v) = leaf f (number v) none
+-- nothing where the kind is 0
+abbrev pub known : Packet → Option Packet
+known x = pick (eqb x.kind 0) None (Some x)
 
-abbrev pub opt_sndcf : Octet → ℕ → Items
-opt_sndcf Nothing v = none
-opt_sndcf (Is o) v = sndcf_member o v
+abbrev pub read_of : List ℕ → Option Packet
+read_of s = known (packet_of s)
+
+-- ---- the record, its members in the order of the Rust's X25Packet
+abbrev pub opt_number : ℕ → Option ℕ → Items
+opt_number f None = none
+opt_number f (Some v) = leaf f (number v) none
+
+abbrev pub opt_sndcf : Option ℕ → ℕ → Items
+opt_sndcf None v = none
+opt_sndcf (Some o) v = sndcf_member o v
 
 abbrev pub fac_member : List ℕ → Packet → Items
 fac_member s x = in_list k_facilities (fac_items x.facat (take x.faclen (drop x.facat s)))
@@ -230,6 +233,11 @@ x25_cells s = pick (eqb (packet_of s).kind 0) [] (flat 0 (record_of (members_of 
 -- where the payload starts: what the packet says on answer 0, and the end of the octets on every refusal
 abbrev pub payload_for : List ℕ → Answer → ℕ
 payload_for s a = pick (eqb (number_of a) 0) (packet_of s).payload (length s)
+
+abbrev pub payload_by : ℕ → Answer → Option Packet → ℕ
+payload_by n (Ok k) (Some x) = x.payload
+payload_by n (Ok k) None = n
+payload_by n (Err r) o = n
 
 abbrev pub x25_answer : List ℕ → ℕ → Answer
 x25_answer s room = answer_to (length s) (x25_cells s) room

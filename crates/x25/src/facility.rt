@@ -1,42 +1,37 @@
 // The facilities of a call packet.
-ghost use Rattle.std.specs.Prelude.{◌≡◌, ◌+◌, ◌<◌, length};
+ghost use Rattle.std.specs.Prelude.{◌≡◌, ◌+◌, ◌<◌, ◌≤◌, IfSome, length, get_or, refl};
 ghost use Rattle.octets.specs.Emit.{Emits};
 ghost use Rattle.names.specs.Numbers.{k_facilities};
 ghost use Rattle.cells.specs.Items.{in_list, flat};
 ghost use Rattle.x25.specs.Facility.{facility, fac_at, fac_items};
 
-use cells::emit::{close_group, open_list, open_object, put_hex_part, put_octet_leaf};
-use cells::entry::Entry;
+use cells::emit::{close_group, open_object, put_hex_part, put_octet_leaf};
+use cells::entry::Body;
+use cells::walk::{Entries, put_list};
+use fields::part::Part;
 use names::key::{CODE, FACILITIES, PARAMS};
 use octets::read::wide;
 
-// What stands at position i of a part.
-pub fn entry_at(s: &[u8], i: usize) -> Entry
+// What stands at position i of a part: the next entry begins behind it, and within the part.
+#[tactic(auto, unfolding(crate::specs::Facility::fac_at))]
+pub fn entry_at(s: &[u8], i: usize) -> Option<Body>
     requires { i < length s.now }
-    ensures { result ≡ fac_at s.now i }
+    ensures value { result ≡ fac_at s.now i }
+    ensures within { IfSome result (λ b. (i < b.start + b.len) × (b.start + b.len ≤ length s.now)) }
 {
     let class = s[i] / 64;
     if class <= 2 {
-        let n = class as usize + 1;
-        if i + 1 + n <= s.len() {
-            return Entry::Body {
-                start: i + 1,
-                len: n,
-            };
+        let len = class as usize + 1;
+        if i + 1 + len <= s.len() {
+            return Some(Body { start: i + 1, len });
         }
-        return Entry::Stop;
-    }
-    if i + 1 < s.len() {
-        let n = wide(s[i + 1]);
-        if i + 2 + n <= s.len() {
-            return Entry::Body {
-                start: i + 2,
-                len: n,
-            };
+    } else if i + 1 < s.len() {
+        let len = wide(s[i + 1]);
+        if i + 2 + len <= s.len() {
+            return Some(Body { start: i + 2, len });
         }
-        return Entry::Stop;
     }
-    Entry::Stop
+    None
 }
 
 // One facility, whose parameters have this place in the input.
@@ -50,39 +45,57 @@ fn put_facility(out: &mut [u64], at: usize, code: u8, from: usize, len: usize) -
     close_group(out, shown, 2)
 }
 
-// The facilities of a part that stands at place base of the input.
-pub fn facilities(out: &mut [u64], at: usize, s: &[u8], base: usize) -> usize
-    requires { base + length s.now < 65536 }
-    ensures { Emits out.old at (flat 2 (fac_items base s.now)) out.new result }
-{
-    let mut i: usize = 0;
-    let mut next = at;
-    while i < s.len() {
-        match entry_at(s, i) {
-            Entry::Stop => return next,
-            Entry::Body { start, len } => {
-                next = put_facility(out, next, s[i], base + start, len);
-                i = start + len;
-            }
-        }
-    }
-    next
+#[derive(Clone, Copy)]
+struct Facilities<'a> {
+    part: Part<'a>,
 }
 
-// As a member, which is left out where there is none: it opens where an entry is known.
+impl Entries for Facilities<'_> {
+    ghost size = { λ f. length f.part.octets.now };
+
+    ghost depth = { λ f. 1 };
+
+    ghost body = { λ f. fac_at f.part.octets.now };
+
+    ghost items = { λ f i start n. facility (get_or f.part.octets.now i 0) (f.part.base + start) n };
+
+    ghost listed = { λ f i start n k xs. refl };
+
+    fn len(&self) -> usize {
+        self.part.octets.len()
+    }
+
+    fn level(&self) -> u8 {
+        1
+    }
+
+    fn body_at(&self, i: usize) -> Option<Body> {
+        entry_at(self.part.octets, i)
+    }
+
+    fn put_entry(&self, out: &mut [u64], at: usize, i: usize, b: Body) -> usize {
+        put_facility(
+            out,
+            at,
+            self.part.octets[i],
+            self.part.base + b.start,
+            b.len,
+        )
+    }
+}
+
+// The facilities of a part that stands at place base of the input, as a member, which is left out where there is none.
 pub fn put_facilities(out: &mut [u64], at: usize, s: &[u8], base: usize) -> usize
     requires { base + length s.now < 65536 }
     ensures { Emits out.old at (flat 1 (in_list k_facilities (fac_items base s.now))) out.new result }
 {
-    if s.len() == 0 {
-        return at;
-    }
-    match entry_at(s, 0) {
-        Entry::Stop => at,
-        Entry::Body { start: _, len: _ } => {
-            let opened = open_list(out, at, 1, FACILITIES);
-            let shown = facilities(out, opened, s, base);
-            close_group(out, shown, 1)
-        }
-    }
+    put_list(
+        &Facilities {
+            part: Part { base, octets: s },
+        },
+        out,
+        at,
+        FACILITIES,
+        0,
+    )
 }

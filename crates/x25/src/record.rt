@@ -7,35 +7,27 @@ ghost use Rattle.fields.specs.Member.{opt_text};
 ghost use Rattle.x25.specs.Packet.{opt_number, opt_sndcf, fac_member, members_of};
 
 use crate::facility::put_facilities;
-use crate::packet::{Octet, Packet};
+use crate::packet::Packet;
 use crate::sndcf::put_sndcf;
 use cells::emit::{close_group, open_object, put_flag, put_number, put_text_number};
+use fields::member::put_text_if;
 use names::key::{CAUSE, CAUSE_TEXT, DIAGNOSTIC, DIAGNOSTIC_TEXT, KIND, LCN, MORE, PR, PS};
 
-fn put_octet(out: &mut [u64], at: usize, field: u8, o: Octet) -> usize
+fn put_octet(out: &mut [u64], at: usize, field: u8, o: Option<u8>) -> usize
     ensures { Emits out.old at (flat 1 (opt_number field o)) out.new result }
 {
     match o {
-        Octet::Nothing => at,
-        Octet::Is(v) => put_number(out, at, 1, field, v as u32),
+        None => at,
+        Some(v) => put_number(out, at, 1, field, v as u32),
     }
 }
 
-fn put_name(out: &mut [u64], at: usize, field: u8, t: u32) -> usize
-    ensures { Emits out.old at (flat 1 (opt_text field t)) out.new result }
-{
-    if t == 0 {
-        return at;
-    }
-    put_text_number(out, at, 1, field, t)
-}
-
-fn put_negotiated(out: &mut [u64], at: usize, o: Octet, version: u8) -> usize
+fn put_negotiated(out: &mut [u64], at: usize, o: Option<u8>, version: u8) -> usize
     ensures { Emits out.old at (flat 1 (opt_sndcf o version)) out.new result }
 {
     match o {
-        Octet::Nothing => at,
-        Octet::Is(v) => put_sndcf(out, at, v, version),
+        None => at,
+        Some(v) => put_sndcf(out, at, v, version),
     }
 }
 
@@ -43,24 +35,20 @@ fn put_negotiated(out: &mut [u64], at: usize, o: Octet, version: u8) -> usize
 fn put_head(x: Packet, out: &mut [u64], at: usize) -> usize
     ensures { Emits out.old at (flat 1 (leaf k_lcn (number x.lcn) none ⊕ (leaf k_kind (text x.kind) none ⊕ (opt_number k_ps x.ps ⊕ (opt_number k_pr x.pr ⊕ leaf k_more (flag x.more) none))))) out.new result }
 {
-    let sent = x.ps;
-    let received = x.pr;
     let lcn = put_number(out, at, 1, LCN, x.lcn as u32);
     let kind = put_text_number(out, lcn, 1, KIND, x.kind);
-    let ps = put_octet(out, kind, PS, sent);
-    let pr = put_octet(out, ps, PR, received);
+    let ps = put_octet(out, kind, PS, x.ps);
+    let pr = put_octet(out, ps, PR, x.pr);
     put_flag(out, pr, 1, MORE, x.more)
 }
 
 fn put_causes(x: Packet, out: &mut [u64], at: usize) -> usize
     ensures { Emits out.old at (flat 1 (opt_number k_cause x.cause ⊕ (opt_text k_cause_text x.causetext ⊕ (opt_number k_diagnostic x.diagnostic ⊕ opt_text k_diagnostic_text x.diagtext)))) out.new result }
 {
-    let cause = x.cause;
-    let diagnostic = x.diagnostic;
-    let caused = put_octet(out, at, CAUSE, cause);
-    let named = put_name(out, caused, CAUSE_TEXT, x.causetext);
-    let told = put_octet(out, named, DIAGNOSTIC, diagnostic);
-    put_name(out, told, DIAGNOSTIC_TEXT, x.diagtext)
+    let caused = put_octet(out, at, CAUSE, x.cause);
+    let named = put_text_if(out, caused, 1, CAUSE_TEXT, x.causetext);
+    let told = put_octet(out, named, DIAGNOSTIC, x.diagnostic);
+    put_text_if(out, told, 1, DIAGNOSTIC_TEXT, x.diagtext)
 }
 
 fn put_calls(x: Packet, b: &[u8], out: &mut [u64], at: usize) -> usize
@@ -68,10 +56,8 @@ fn put_calls(x: Packet, b: &[u8], out: &mut [u64], at: usize) -> usize
     ensures { Emits out.old at (flat 1 (fac_member b.now x ⊕ opt_sndcf x.sndcf x.version)) out.new result }
 {
     let from = x.facat;
-    let n = x.faclen;
-    let octet = x.sndcf;
-    let listed = put_facilities(out, at, &b[from..from + n], from);
-    put_negotiated(out, listed, octet, x.version)
+    let listed = put_facilities(out, at, &b[from..from + x.faclen], from);
+    put_negotiated(out, listed, x.sndcf, x.version)
 }
 
 pub fn put_record(x: Packet, b: &[u8], out: &mut [u64], at: usize) -> usize

@@ -11,37 +11,29 @@ use names::text::{ACA, DEFLATE, LREF, LREF_CAN};
 use octets::read::wide;
 
 // The field of a call request: its compression octet and the place behind it.
-#[derive(Clone, Copy)]
-pub enum Field {
-    Absent,
-    Found { octet: u8, end: usize },
+#[derive(Clone, Copy, PartialEq, Eq)]
+pub struct Field {
+    pub octet: u8,
+    pub end: usize,
 }
 
 // The bound on the place is against a sum that wraps; no address block and no facilities reach so far.
-pub fn field_at(b: &[u8], p: usize) -> Field
+#[tactic(auto, unfolding(crate::specs::Sndcf::field_at))]
+pub fn field_at(b: &[u8], p: usize) -> Option<Field>
     requires { p < 65536 }
     ensures { result ≡ field_at b.now p }
 {
-    if b.len() < p + 2 {
-        return Field::Absent;
-    }
-    if b[p] != 0xC1 {
-        return Field::Absent;
+    if b.len() < p + 2 || b[p] != 0xC1 {
+        return None;
     }
     let n = wide(b[p + 1]);
-    if n < 4 {
-        return Field::Absent;
+    if n < 4 || b.len() < p + 2 + n || b[p + 2] != 1 {
+        return None;
     }
-    if b.len() < p + 2 + n {
-        return Field::Absent;
-    }
-    if b[p + 2] != 1 {
-        return Field::Absent;
-    }
-    Field::Found {
+    Some(Field {
         octet: b[p + 5],
         end: p + 2 + n,
-    }
+    })
 }
 
 fn put_algorithm(out: &mut [u64], at: usize, bit: u8, number: u32) -> usize

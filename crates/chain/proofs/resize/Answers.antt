@@ -11,7 +11,7 @@ returns-then-k-n c =
     let pre = c.requires in
     let x : a.m + a.n - a.k ≡ a.m = omega (arith, c.if-k-n.true) in
     record {
-      k_after = ap (homed a.home.now a.list.now a.b) x ∙ pre.6;
+      homed = ap (homed a.home.now a.list.now a.b) x ∙ pre.6;
       resized = resized_same a.list.now a.m a.a a.k a.n c.if-k-n.true pre.0;
     }
 
@@ -21,7 +21,7 @@ returns-then-k-n-2 c =
     let pre = c.requires in
     let x : a.m + a.n - a.k ≡ a.m + (a.n - a.k) = omega (arith, c.if-k-n-2.true) in
     record {
-      k_after = ap (homed c.insert.new.home c.insert.new.list a.b) x ∙ c.insert.ensures.1;
+      homed = ap (homed c.insert.new.home c.insert.new.list a.b) x ∙ c.insert.ensures.1;
       resized = resized_more a.list.now c.insert.new.list a.m a.a a.k a.n c.if-k-n-2.true pre.0 (omega (arith, pre, c.insert.auto.list)) c.insert.ensures.0;
     }
 
@@ -31,6 +31,6 @@ returns-else-k-n-2 c =
     let pre = c.requires in
     let x : a.m + a.n - a.k ≡ a.m - (a.a + a.k - (a.a + a.n)) = omega (arith, c.if-k-n-2.false, pre) in
     record {
-      k_after = ap (homed c.release.new.home c.release.new.list a.b) x ∙ c.release.ensures.1;
+      homed = ap (homed c.release.new.home c.release.new.list a.b) x ∙ c.release.ensures.1;
       resized = resized_less a.list.now c.release.new.list a.m a.a a.k a.n c.if-k-n-2.false pre.0 c.release.ensures.0;
     }

@@ -1,79 +1,31 @@
-use Prim.Native.Nat.{ℕ, ◌+◌, ◌*◌, ◌/◌, ◌%◌, ◌≤◌, ◌<◌}
-use mathlib.Core.Path.{◌≡◌, refl, sym, ap, ◌∙◌}
+use Prim.Native.Nat.{ℕ, ◌+◌, ◌≤◌}
+use mathlib.Core.Path.{◌≡◌, sym, ap, ◌∙◌}
+use mathlib.Core.List.{List}
 use native.Mathlib.Omega.{arith}
-use lib.ListN.{length, get_or, take}
-use lib.Seq.{take-length, get_or-take, length-take-le}
+use lib.ListN.{length, take, drop, length-drop}
+use lib.Seq.{length-take-le}
 use Rattle.octets.specs.Emit.{put}
-use Rattle.chain.specs.Chain.{flat}
+use Rattle.chain.specs.Chain.{flat, Stretch}
 use Rattle.octets.proofs.Put.{put_nil}
-use Rattle.chain.proofs.Flat.{write_more, run-below, run_take}
-use Rattle.chain.proofs.write_at.Goals.{Joined-src-done, then-src-done, else-src-done}
+use Rattle.chain.proofs.Flat.{put_more}
 use Rattle.chain.proofs.write_at.Goals as goal
 
--- what a turn knows of its n octets, where n is settled
-turn : (c : Joined-src-done)
-    → let at = c in let a = at.args in
-    let w = a.v + at.loop-done.done in
-    let r = c.run.result in
-    (0 < c.if-src-done.part) × (w % 64 + c.if-src-done.part ≤ 64 * r) × (at.loop-done.done + c.if-src-done.part ≤ length a.src.now) × (w / 64 + r ≤ a.n) × (get_or a.list.now (w / 64) 0 + r ≤ a.b)
-turn c =
-    let at = c in let start = at in
-    let a = start.args in
-    let i = (a.v + at.loop-done.done) / 64 in
-    let run = c.run in
-    let l = take a.n a.list.now in
-    let ln : length l ≡ a.n = length-take-le a.n a.list.now (omega (arith, start.requires)) in
-    let hi : i + run.result ≤ a.n = omega (arith, start.requires, c, run.ensures) in
-    let x< : get_or a.list.now i 0 + run.result ≤ a.b = rw (get_or-take a.n a.list.now i 0 (omega (arith, run.ensures))) at (run-below a.b l i run.result start.requires.2 (omega (arith, run.ensures)) (omega arith) (run_take a.list.now a.n i run.result hi run.ensures.2)) in
-    elim c.if-src-done.branch [ then-src-done w ↦ omega (arith, start.requires, c, run.ensures) | else-src-done w ↦ omega (arith, start.requires, c, run.ensures) ]
-
 pub loop-done-init : goal.loop-done-init
-loop-done-init c = (omega arith, refl, sym (put_nil (flat c.args.blocks.now (take c.args.n c.args.list.now)) c.args.v))
-
-pub overflow_cast-x : goal.overflow_cast-x
-overflow_cast-x c = let at = c in omega (arith, c.shared_slice_known-in-loop-done-1.given ((at.args.v + at.loop-done.done) / 64))
-
-pub overflow_mul-x : goal.overflow_mul-x
-overflow_mul-x c = omega (arith, turn (goal.at.overflow_mul-x c).Joined-src-done)
-
-pub overflow_add-x : goal.overflow_add-x
-overflow_add-x c = omega (arith, turn (goal.at.overflow_add-x c).Joined-src-done)
-
-pub copy-requires : goal.copy-requires
-copy-requires c = omega (arith, turn (goal.at.copy-requires c).Joined-src-done)
-
-pub overflow_add-done : goal.overflow_add-done
-overflow_add-done c = omega (arith, turn (goal.at.overflow_add-done c).Joined-src-done)
-
-pub loop-done-smaller : goal.loop-done-smaller
-loop-done-smaller c = omega (arith, turn (goal.at.loop-done-smaller c).Joined-src-done)
+loop-done-init g c = (omega arith, sym (put_nil (flat c.args.blocks.now (take c.args.n c.args.list.now)) c.args.v))
 
 pub loop-done-preserved : goal.loop-done-preserved
-loop-done-preserved c =
-    let called = c in let joined = called in
-    let at = joined in
-    let run = joined.run in
-    let start = at in
-    let a = start.args in
-    let t = turn (goal.at.loop-done-preserved c).Joined-src-done in
+loop-done-preserved g c =
+    let a = c.args in
     let l = take a.n a.list.now in
-    let ln : length l ≡ a.n = length-take-le a.n a.list.now (omega (arith, start.requires)) in
-    let up = run_take a.list.now a.n ((a.v + at.loop-done.done) / 64) run.result (omega (arith, t)) run.ensures.2 in
-    let x= : get_or l ((a.v + at.loop-done.done) / 64) 0 ≡ get_or a.list.now ((a.v + at.loop-done.done) / 64) 0 = get_or-take a.n a.list.now ((a.v + at.loop-done.done) / 64) 0 (omega (arith, t, run.ensures)) in (
-      omega (arith, t),
-      called.copy.auto.dst ∙ at.loop-done.invariant.1,
-      write_more a.b a.blocks.now at.loop-done.blocks called.copy.new.dst l a.v a.src.now at.loop-done.done joined.if-src-done.part run.result
-          (omega (arith, start.requires)) (omega (arith, start.requires, at.loop-done.invariant)) start.requires.2 (omega (arith, start.requires)) (omega (arith, t)) up (omega (arith, t)) (omega (arith, t))
-          at.loop-done.invariant.2 (rw x= called.copy.ensures),
+    let done = c.loop-done.done in
+    let part = c.stretch-at.result.1 in
+    let src = g.S.Source.octets a.src in
+    let s : Stretch a.b l (a.v + done) c.stretch-at.result.0 part = c.stretch-at.ensures.stretch a.b a.n c.requires.1 c.requires.2 (omega arith) in
+    let few : done + part ≤ length src = omega (arith, c.stretch-at.ensures.some) in
+    let long : length (take part (drop done src)) ≡ part = length-take-le part (drop done src) (simp length-drop (omega arith)) in (
+      few,
+      ap (λ (x : List ℕ). flat x l) c.put.ensures
+          ∙ s.writes c.loop-done.blocks (take part (drop done src)) (omega arith) long
+          ∙ ap (λ (x : List ℕ). put x (a.v + done) (take part (drop done src))) c.loop-done.invariant.1
+          ∙ put_more (flat a.blocks.now l) src a.v done part (omega arith),
     )
-
-pub shape_of-blocks : goal.shape_of-blocks
-shape_of-blocks c = c.loop-done.invariant.1
-
-pub returns : goal.returns
-returns c =
-    let at = c in let a = at.args in
-    let all : at.loop-done.done ≡ length a.src.now = omega arith in
-    at.loop-done.invariant.2
-    ∙ ap (λ (k : ℕ). put (flat a.blocks.now (take a.n a.list.now)) a.v (take k a.src.now)) all
-    ∙ ap (put (flat a.blocks.now (take a.n a.list.now)) a.v) (take-length a.src.now)

@@ -6,7 +6,7 @@ use Rattle.chain.specs.Chain.{flat}
 use Rattle.chain.proofs.write_at.Given as goal
 
 abbrev pub invariant-loop-done : goal.invariant-loop-done
-invariant-loop-done l = (l.done ≤ length l.src) × (length l.blocks ≡ length l.initial.blocks) × (flat l.blocks (take l.n l.list) ≡ put (flat l.initial.blocks (take l.n l.list)) l.v (take l.done l.src))
+invariant-loop-done g l = (l.done ≤ length (g.S.Source.octets l.src)) × (flat l.blocks (take l.n l.list) ≡ put (flat l.initial.blocks (take l.n l.list)) l.v (take l.done (g.S.Source.octets l.src)))
 
 abbrev pub decreases-loop-done : goal.decreases-loop-done
-decreases-loop-done l = length l.src - l.done
+decreases-loop-done g l = length (g.S.Source.octets l.src) - l.done

@@ -1,40 +1,24 @@
-use borrow.Author.Rules.{rules}
-use native.Mathlib.Omega.{arith}
-use Rattle.cells.proofs.Answers.{too_long, unreadable, no_front}
-use Rattle.cells.proofs.Once.{says_once, says-short, says-whole}
-use Rattle.clnp.specs.Pdu.{members_of}
-use Rattle.clnp.proofs.Headers.{off, on}
+use mathlib.Core.Path.{sym, ◌∙◌}
+use Rattle.octets.proofs.Tests.{and_left}
+use Rattle.cells.proofs.Answers.{too_long, unreadable}
+use Rattle.clnp.specs.Segment.{headed, addresses_of}
+use Rattle.clnp.specs.Pdu.{has_addresses}
+use Rattle.clnp.proofs.Headers.{full}
 use Rattle.clnp.proofs.Cells.{no_cells, cells_are}
-use Rattle.clnp.proofs.Thin.{clnp_thin}
+use Rattle.clnp.proofs.Thin.{record_thin}
 use Rattle.clnp.proofs.parse_clnp.Goals as goal
 
-pub returns-then-n-gt65535 : goal.returns-then-n-gt65535
-returns-then-n-gt65535 c = too_long c.if-n-gt65535.true
+pub returns-then-b-gt65535 : goal.returns-then-b-gt65535
+returns-then-b-gt65535 c = too_long c.if-b-gt65535.true
 
 pub returns-then-not-readable : goal.returns-then-not-readable
-returns-then-not-readable c = let a = c.args in unreadable c.if-n-gt65535.false (no_cells a.b.now (off c.readable.ensures c.if-not-readable.true))
-
-pub put_record-size-requires : goal.put_record-size-requires
-put_record-size-requires c = (omega (arith, c.if-n-gt65535.false), on c.readable.ensures c.if-not-readable.false)
-
-pub returns-then-n-out : goal.returns-then-n-out
-returns-then-n-out c =
-    let a = c.args in says_once (members_of a.b.now) c.if-n-gt65535.false (cells_are a.b.now (on c.readable.ensures c.if-not-readable.false)) (clnp_thin a.b.now) c.if-n-out.true (search rules) c.put_record-size.ensures
-
-pub put_record-size-requires-2 : goal.put_record-size-requires-2
-put_record-size-requires-2 c = (omega (arith, c.if-n-gt65535.false), on c.readable.ensures c.if-not-readable.false)
-
-pub returns-then-out-size : goal.returns-then-out-size
-returns-then-out-size c =
-    let a = c.args in
-    let z = no_front c.put_record-size-2.new.out a.out.now c.put_record-size-2.auto.out in
-    says-short (members_of a.b.now) c.if-n-gt65535.false (cells_are a.b.now (on c.readable.ensures c.if-not-readable.false)) z (rw z at c.if-out-size.true) c.put_record-size-2.ensures
+returns-then-not-readable c = unreadable c.if-b-gt65535.false (no_cells c.args.b.now (sym c.readable.ensures ∙ c.if-not-readable.true))
 
 pub put_record-requires : goal.put_record-requires
-put_record-requires c = (omega (arith, c.if-n-gt65535.false), on c.readable.ensures c.if-not-readable.false)
+put_record-requires c =
+    let s = c.args.b.now in
+    let h = and_left (headed s) (has_addresses (addresses_of s)) (sym c.readable.ensures ∙ c.if-not-readable.false) in
+    (c.if-b-gt65535.false, record_thin s (full s h).2)
 
 pub returns : goal.returns
-returns c =
-    let a = c.args in
-    let z = no_front c.put_record-size-2.new.out a.out.now c.put_record-size-2.auto.out in
-    says-whole (members_of a.b.now) c.if-n-gt65535.false (cells_are a.b.now (on c.readable.ensures c.if-not-readable.false)) z (rw z at c.if-out-size.false) (search rules) c.put_record-size-2.ensures c.put_record.ensures
+returns c = rw (sym (cells_are c.args.b.now (sym c.readable.ensures ∙ c.if-not-readable.false))) c.put_record.ensures

@@ -1,26 +1,16 @@
-use borrow.Author.Rules.{rules}
-use Rattle.cells.proofs.Answers.{too_long, no_front}
-use Rattle.cells.proofs.Once.{says_once, says-short, says-whole}
-use Rattle.idrp.specs.Pdu.{members_of}
-use Rattle.idrp.proofs.Cells.{cells_are}
+use Rattle.std.proofs.Common.{rules, arith, ◌≤◌, ◌+◌, ◌*◌, length}
+use Rattle.cells.proofs.Answers.{too_long}
+use Rattle.idrp.specs.Pdu.{idrp_cells}
 use Rattle.idrp.proofs.Thin.{idrp_thin}
 use Rattle.idrp.proofs.parse_idrp.Goals as goal
 
-pub returns-then-n-gt65535 : goal.returns-then-n-gt65535
-returns-then-n-gt65535 c = too_long c.if-n-gt65535.true
+pub returns-then-b-gt65535 : goal.returns-then-b-gt65535
+returns-then-b-gt65535 c = too_long c.if-b-gt65535.true
 
-pub returns-then-n-out : goal.returns-then-n-out
-returns-then-n-out c =
-    let a = c.args in says_once (members_of a.b.now) c.if-n-gt65535.false (cells_are a.b.now) (idrp_thin a.b.now) c.if-n-out.true (search rules) c.put_record-size.ensures
-
-pub returns-then-out-size : goal.returns-then-out-size
-returns-then-out-size c =
-    let a = c.args in
-    let z = no_front c.put_record-size-2.new.out a.out.now c.put_record-size-2.auto.out in
-    says-short (members_of a.b.now) c.if-n-gt65535.false (cells_are a.b.now) z (rw z at c.if-out-size.true) c.put_record-size-2.ensures
+pub put_record-requires : goal.put_record-requires
+unfolding idrp_cells
+put_record-requires c = (c.if-b-gt65535.false, idrp_thin c.args.b.now)
 
 pub returns : goal.returns
-returns c =
-    let a = c.args in
-    let z = no_front c.put_record-size-2.new.out a.out.now c.put_record-size-2.auto.out in
-    says-whole (members_of a.b.now) c.if-n-gt65535.false (cells_are a.b.now) z (rw z at c.if-out-size.false) (search rules) c.put_record-size-2.ensures c.put_record.ensures
+unfolding idrp_cells
+returns c = c.put_record.ensures

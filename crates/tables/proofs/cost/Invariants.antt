@@ -1,10 +1,7 @@
-use Prim.Native.Nat.{◌*◌, ◌-◌, ◌≤◌}
+use Prim.Native.Nat.{◌*◌, ◌≤◌}
 use mathlib.Core.Path.{◌≡◌}
 use Rattle.tables.specs.Tables.{costs}
 use Rattle.tables.proofs.cost.Given as goal
 
 abbrev pub invariant-loop-j : goal.invariant-loop-j
-invariant-loop-j l = (l.j ≤ l.u) × (l.sum ≡ costs l.words l.p l.j) × (l.sum ≤ 576460752303423490 * l.j)
-
-abbrev pub decreases-loop-j : goal.decreases-loop-j
-decreases-loop-j l = l.u - l.j
+invariant-loop-j l = (l.sum ≡ costs l.words l.p l.j) × (l.sum ≤ 576460752303423490 * l.j)

@@ -1,4 +1,4 @@
-use Prim.Native.Nat.{ℕ, ◌+◌, ◌-◌, ◌≤◌}
+use Prim.Native.Nat.{ℕ, ◌+◌}
 use mathlib.Core.Path.{◌≡◌}
 use mathlib.Core.Bool.{Bool, true, not}
 use mathlib.Core.List.{List}
@@ -10,7 +10,4 @@ abbrev pub differs : List ℕ → ℕ → ℕ → ℕ → Bool
 differs w p i j = not (key_eq w (p + i) (p + j))
 
 abbrev pub invariant-loop-j : goal.invariant-loop-j
-invariant-loop-j l = (l.j ≤ l.i) × (all (differs l.words l.p l.i) l.j ≡ true)
-
-abbrev pub decreases-loop-j : goal.decreases-loop-j
-decreases-loop-j l = l.i - l.j
+invariant-loop-j l = all (differs l.words l.p l.i) l.j ≡ true

@@ -1,4 +1,3 @@
-use Prim.Native.Nat.{◌-◌, ◌≤◌}
 use mathlib.Core.Path.{◌≡◌}
 use mathlib.Core.Bool.{true}
 use Rattle.octets.specs.Tests.{all}
@@ -6,7 +5,4 @@ use Rattle.tables.specs.Tables.{key_new}
 use Rattle.tables.proofs.keys_ok.Given as goal
 
 abbrev pub invariant-loop-i : goal.invariant-loop-i
-invariant-loop-i l = (1 ≤ l.i) × (all (key_new l.words l.p) l.i ≡ true)
-
-abbrev pub decreases-loop-i : goal.decreases-loop-i
-decreases-loop-i l = l.u - l.i
+invariant-loop-i l = all (key_new l.words l.p) l.i ≡ true

@@ -11,8 +11,5 @@ invariant-loop-l l = (l.n ≤ l.l) × (l.l ≤ 16) × (all (λ i. idle l.words (
 abbrev pub decreases-loop-l : goal.decreases-loop-l
 decreases-loop-l l = 16 - l.l
 
-abbrev pub invariant-loop-l-2 : goal.invariant-loop-l-2
-invariant-loop-l-2 l = (l.n ≤ l.l) × (l.l ≤ 16) × (all (λ i. idle l.words (l.n + i)) (l.l - l.n) ≡ true)
-
-abbrev pub decreases-loop-l-2 : goal.decreases-loop-l-2
-decreases-loop-l-2 l = 16 - l.l
+abbrev pub invariant-loop-i : goal.invariant-loop-i
+invariant-loop-i l = all (λ i. idle l.words (l.n + i)) (l.i - l.n) ≡ true

@@ -8,10 +8,10 @@ pub overflow_add-result-5 : goal.overflow_add-result-5
 overflow_add-result-5 c =
     let a = c.args in
     let k = place a.words.now a.p c.requires.2 in
-    omega (arith, k.body, k.top, c.shared_slice_known-2-1.given (40 + 12 * a.p + 7), c.shared_slice_known-2-1.given (40 + 12 * a.p + 8))
+    omega (arith, k.body, k.top, c.type_inv.words (40 + 12 * a.p + 7), c.type_inv.words (40 + 12 * a.p + 8))
 
 pub returns : goal.returns
 returns c =
     let a = c.args in
     let k = place a.words.now a.p c.requires.2 in
-    (refl, omega (arith, k.body, k.top, c.shared_slice_known-2-1.given (40 + 12 * a.p + 7), c.shared_slice_known-2-1.given (40 + 12 * a.p + 8)))
+    (refl, omega (arith, k.body, k.top, c.type_inv.words (40 + 12 * a.p + 7), c.type_inv.words (40 + 12 * a.p + 8)))

@@ -13,6 +13,6 @@ returns c =
     let a = c.args in
     let code : Items = leaf k_code (octet a.t) none in
     let name : Items = opt_text k_name (text_in clnp_options [] a.t) in
-    let value : Items = option_value a.base a.s.now a.t a.i a.n in
+    let value : Items = option_value a.part.base a.part.octets.now a.t a.b.start a.b.len in
     around 2 true 0 (code ⊕ (name ⊕ value)) c.open_object-opened.ensures
     (then_row 3 code (name ⊕ value) c.put_octet_leaf-coded.ensures (then_row 3 name value (rw c.clnp_option_name.ensures at c.put_text_if-named.ensures) c.put_value-shown.ensures)) c.close_group.ensures

@@ -1,18 +1,17 @@
 use borrow.Author.Rules.{rules}
+use mathlib.Core.Path.{sym, ◌∙◌}
 use mathlib.Core.Bool.{true}
 use Rattle.names.specs.Numbers.{k_cotp}
 use Rattle.octets.proofs.Emits.{nothing}
-use Rattle.cells.proofs.Rows.{around, flat-none, row_as}
-use Rattle.cotp.specs.Tpdu as cotp
-use Rattle.clnp.proofs.Records.{no_tpdu, a_tpdu}
+use Rattle.cells.proofs.Rows.{around, flat-none}
+use Rattle.cotp.specs.Tpdu.{members_of}
 use Rattle.clnp.proofs.record.put_tpdu.Goals as goal
 
-pub returns-then-h-eq0 : goal.returns-then-h-eq0
-returns-then-h-eq0 c =
-    row_as 1 (no_tpdu c.args.base c.args.t.now c.read-h.result c.read-h.ensures c.if-h-eq0.true) (rw flat-none (nothing _ _ (search rules) (search rules)))
+pub returns-in_default : goal.returns-in_default
+returns-in_default c = rw (sym c.read.ensures ∙ c.in_default.is, flat-none) (nothing _ _ (search rules) (search rules))
 
 pub returns : goal.returns
 returns c =
-    let a = c.args in
-    row_as 1 (a_tpdu a.base a.t.now c.read-h.result c.read-h.ensures c.if-h-eq0.false)
-    (around 1 true k_cotp (cotp.members_of a.base a.t.now c.read-h.result) c.open_object-opened.ensures c.put_members-shown.ensures c.close_group.ensures)
+    let t = c.args.t in
+    rw (sym c.read.ensures ∙ c.in-Some.is)
+    (around 1 true k_cotp (members_of t.base t.octets.now c.in-Some.h) c.open_object-opened.ensures c.put_members-shown.ensures c.close_group.ensures)

@@ -1,13 +1,20 @@
 use borrow.Author.Rules.{rules}
+use mathlib.Core.Logic.{inl, inr}
+use native.Mathlib.Omega.{arith}
+use Prim.Native.Nat.{◌≤◌}
+use lib.ListN.{get_or}
 use Rattle.octets.proofs.Emits.{nothing}
-use Rattle.cells.proofs.Rows.{flat-none, row_as}
-use Rattle.clnp.proofs.Records.{no_options, options_as}
+use Rattle.cells.proofs.Rows.{flat-none}
+use Rattle.clnp.specs.Pdu.{options_at}
+use Rattle.clnp.proofs.Records.{no_options}
 use Rattle.clnp.proofs.record.put_variable.Goals as goal
 
-pub returns-then-to-from : goal.returns-then-to-from
-returns-then-to-from c =
-    row_as 1 (no_options c.args.b.now c.options_at-from.result c.wide-to.result c.options_at-from.ensures c.wide-to.ensures.0 c.if-to-from.true) (rw flat-none (nothing _ _ (search rules) (search rules)))
-
-pub returns : goal.returns
-returns c =
-    row_as 1 (options_as c.args.b.now c.options_at-from.result c.wide-to.result c.options_at-from.ensures c.wide-to.ensures.0) c.put_options.ensures
+pub returns-in_default : goal.returns-in_default
+returns-in_default c =
+    let p = c.args.p in
+    let s = p.octets.now in
+    let past : get_or s 1 0 ≤ options_at s = elim c.in_default.ensures.lookup.0 [
+      | inl h ↦ omega (arith, h, c.wide.ensures.0, c.options_at-from.ensures)
+      | inr h ↦ absurd (omega (arith, h, c.wide.ensures.0, p.full.1))
+    ] in
+    rw (no_options s past, flat-none) (nothing _ _ (search rules) (search rules))

@@ -1,15 +1,20 @@
-use Rattle.octets.specs.Text.{pick}
-use Rattle.codes.specs.Codes.{Row, traffic_types, atsc_classes}
-use mathlib.Core.List.{List}
 use mathlib.Core.Bool.{false}
-use Rattle.cells.proofs.Rows.{around, then_row, row_as}
-use Rattle.clnp.specs.Label.{bit_names}
-use Rattle.clnp.proofs.Tags.{low_of, high_of, bits_are}
+use Prim.Native.Nat.{ℕ}
+use Rattle.cells.specs.Items.{Items, ◌⊕◌}
+use Rattle.cells.proofs.Rows.{around, then_row}
+use Rattle.clnp.specs.Label.{bit_name, bit_names}
 use Rattle.clnp.proofs.tag.put_bits.Goals as goal
 
 pub returns : goal.returns
-returns c =
+returns g c =
     let a = c.args in
-    let rows : List Row = pick a.classes atsc_classes traffic_types in
-    around 6 false a.field (bit_names rows a.o) c.open_list-opened.ensures
-    (row_as 7 (bits_are rows a.o) (then_row 7 (low_of rows a.o) (high_of rows a.o) c.put_low-low.ensures c.put_high-high.ensures)) c.close_group.ensures
+    let bit : ℕ → Items = bit_name g.rows a.o in
+    let from_64 : Items = bit 64 ⊕ bit 128 in
+    let from_16 : Items = bit 16 ⊕ (bit 32 ⊕ from_64) in
+    let from_4 : Items = bit 4 ⊕ (bit 8 ⊕ from_16) in
+    around 6 false a.field (bit_names g.rows a.o) c.open_list-opened.ensures
+    (then_row 7 (bit 1) (bit 2 ⊕ from_4) c.put_bit-one.ensures (then_row 7 (bit 2) from_4 c.put_bit-two.ensures
+    (then_row 7 (bit 4) (bit 8 ⊕ from_16) c.put_bit-four.ensures (then_row 7 (bit 8) from_16 c.put_bit-eight.ensures
+    (then_row 7 (bit 16) (bit 32 ⊕ from_64) c.put_bit-sixteen.ensures (then_row 7 (bit 32) from_64 c.put_bit-thirty_two.ensures
+    (then_row 7 (bit 64) (bit 128) c.put_bit-sixty_four.ensures c.put_bit-all.ensures)))))))
+    c.close_group.ensures

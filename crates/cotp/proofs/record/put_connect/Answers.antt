@@ -1,4 +1,3 @@
-use native.Mathlib.Omega.{arith}
 use Rattle.names.specs.Numbers.{k_class, k_options}
 use Rattle.cells.specs.Items.{Items, none, leaf, number, ◌⊕◌}
 use Rattle.cells.proofs.Rows.{then_row}
@@ -6,9 +5,6 @@ use Rattle.cotp.specs.Tpdu.{src_ref}
 use lib.ListN.{get_or}
 use Prim.Native.Nat.{◌/◌, ◌%◌}
 use Rattle.cotp.proofs.record.put_connect.Goals as goal
-
-pub overflow_cast-b : goal.overflow_cast-b
-overflow_cast-b c = record { fits = omega (arith, (c.shared_slice_known-2-1.given 6).fits) }
 
 pub returns : goal.returns
 returns c =

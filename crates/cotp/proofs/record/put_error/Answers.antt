@@ -1,4 +1,3 @@
-use native.Mathlib.Omega.{arith}
 use Rattle.names.specs.Numbers.{k_reject_cause, k_reject_cause_text}
 use Rattle.cells.specs.Items.{Items, none, leaf, number}
 use Rattle.cells.proofs.Rows.{then_row}
@@ -7,9 +6,6 @@ use lib.ListN.{get_or}
 use Rattle.codes.specs.Codes.{text_in, reject_causes}
 use Rattle.fields.specs.Member.{opt_text}
 use Rattle.cotp.proofs.record.put_error.Goals as goal
-
-pub overflow_cast-b : goal.overflow_cast-b
-overflow_cast-b c = record { fits = omega (arith, (c.shared_slice_known-2-1.given 4).fits) }
 
 pub returns : goal.returns
 returns c =

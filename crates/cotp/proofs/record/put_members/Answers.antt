@@ -1,42 +1,9 @@
 use native.Mathlib.Omega.{arith}
 use Rattle.cotp.proofs.Heads.{said}
-use lib.ListN.{get_or}
-use Prim.Native.Nat.{◌+◌}
-use Rattle.octets.specs.Read.{be16}
-use Rattle.names.specs.Numbers.{k_tpdu, k_dst_ref, k_extended, k_params}
-use Rattle.cells.specs.Items.{Items, none, leaf, number, text, in_list, ◌⊕◌}
-use Rattle.cells.proofs.Rows.{then_row}
-use Rattle.fields.specs.Member.{opt_yes}
-use Rattle.cotp.specs.Params.{param_items}
-use Rattle.cotp.specs.Tpdu.{fixed_members, param_part, user_members, members_of}
 use Rattle.cotp.proofs.record.put_members.Goals as goal
 
-pub bounds-b-2 : goal.bounds-b-2
-bounds-b-2 c =
+pub invariant_of-put_tpdu : goal.invariant_of-put_tpdu
+invariant_of-put_tpdu c =
     let a = c.args in
-    let w = said a.b.now a.h c.requires.2 c.requires.3 in
-    omega (arith, w.four)
-
-pub bounds-b-3 : goal.bounds-b-3
-bounds-b-3 c =
-    let a = c.args in
-    let w = said a.b.now a.h c.requires.2 c.requires.3 in
-    omega (arith, w.four)
-
-pub returns : goal.returns
-unfolding members_of
-returns c =
-    let a = c.args in
-    let s = a.b.now in
-    let h = a.h in
-    let d = a.depth in
-    let name : Items = leaf k_tpdu (text h.name) none in
-    let dst : Items = leaf k_dst_ref (number (be16 (get_or s 2 0) (get_or s 3 0))) none in
-    let fixed : Items = fixed_members s h.name h.extended in
-    let long : Items = opt_yes k_extended h.extended in
-    let params : Items = in_list k_params (param_items (a.base + h.fixed) (param_part s h)) in
-    let user : Items = user_members s h in
-    then_row d name (dst ⊕ (fixed ⊕ (long ⊕ (params ⊕ user)))) c.put_text_number-named.ensures
-    (then_row d dst (fixed ⊕ (long ⊕ (params ⊕ user))) (rw c.u16_of.ensures at c.put_number-dst.ensures)
-    (then_row d fixed (long ⊕ (params ⊕ user)) c.put_fixed-fixed.ensures
-    (then_row d long (params ⊕ user) c.put_yes_if-told.ensures (then_row d params user c.put_variable-listed.ensures c.put_user.ensures))))
+    let w = said a.b.now a.h c.requires.2 in
+    record { low = omega (arith, w.counts, (c.type_inv.b 0).fits); whole = w.whole }

@@ -1,4 +1,3 @@
-use native.Mathlib.Omega.{arith}
 use Rattle.names.specs.Numbers.{k_reason, k_reason_text}
 use Rattle.cells.specs.Items.{Items, none, leaf, number, ◌⊕◌}
 use Rattle.cells.proofs.Rows.{then_row}
@@ -8,9 +7,6 @@ use lib.ListN.{get_or}
 use Rattle.codes.specs.Codes.{text_in, disconnect_reasons}
 use Rattle.fields.specs.Member.{opt_text}
 use Rattle.cotp.proofs.record.put_request.Goals as goal
-
-pub overflow_cast-b : goal.overflow_cast-b
-overflow_cast-b c = record { fits = omega (arith, (c.shared_slice_known-2-1.given 6).fits) }
 
 pub returns : goal.returns
 returns c =

@@ -12,6 +12,6 @@ returns c =
     let a = c.args in
     let name : Items = leaf k_type (text (text_in idrp_attributes (octets "unknown") a.t)) none in
     let code : Items = leaf k_type_code (number a.t) none in
-    let value : Items = attribute_value a.base a.s.now a.t a.i a.n in
+    let value : Items = attribute_value a.body.base a.body.octets.now a.t a.b.start a.b.len in
     around 3 true 0 (name ⊕ (code ⊕ value)) c.open_object-opened.ensures
     (then_row 4 name (code ⊕ value) (rw c.idrp_attr_name.ensures at c.put_text_number-typed.ensures) (then_row 4 code value c.put_number-coded.ensures c.put_value-valued.ensures)) c.close_group.ensures

@@ -6,4 +6,4 @@ use Rattle.idrp.proofs.prefix.put_prefixes.Goals as goal
 
 pub returns : goal.returns
 returns c =
-    around 4 false k_prefixes (prefix_items c.args.base c.args.s.now) c.open_list-opened.ensures c.prefixes-shown.ensures c.close_group.ensures
+    around 4 false k_prefixes (prefix_items c.args.base c.args.s.now) c.open_list-opened.ensures c.put_entries-shown.ensures c.close_group.ensures

@@ -1,29 +1,16 @@
-use Prim.Native.Nat.{ℕ, ◌+◌}
-use mathlib.Core.Path.{◌≡◌, refl, sym, ap, ◌∙◌}
-use mathlib.Core.List.{List}
+use Prim.Native.Nat.{ℕ, ◌+◌, ◌-◌}
+use mathlib.Core.Path.{◌≡◌, ap, ◌∙◌}
 use native.Mathlib.Omega.{arith}
-use lib.ListN.{get_or, set, take, drop, length-set}
-use Rattle.octets.specs.Emit.{put}
-use Rattle.octets.proofs.Put.{put_nil, put-next-from}
+use lib.ListN.{length, take, drop, length-drop}
+use lib.Seq.{length-take-le}
+use Rattle.octets.proofs.Put.{put_part}
 use Rattle.octets.proofs.emit.copy.Goals as goal
 
-pub loop-j-init : goal.loop-j-init
-loop-j-init c = (omega arith, sym (put_nil _ _), refl)
-
-pub loop-j-preserved : goal.loop-j-preserved
-loop-j-preserved c =
-    let l = c in let a = l.args in (
-      omega arith,
-      ap (λ (d : List ℕ). set d (a.at + l.loop-j.j) (get_or a.src.now (a.from + l.loop-j.j) 0)) l.loop-j.invariant.1
-          ∙ put-next-from a.dst.now a.src.now a.at a.from l.loop-j.j 0 (omega arith),
-      simp length-set l.loop-j.invariant.2,
-    )
-
-pub shape_of-dst : goal.shape_of-dst
-shape_of-dst c = c.loop-j.invariant.2
-
 pub returns : goal.returns
-returns c =
-    let all : c.loop-j.j ≡ c.args.n = omega arith in
+returns g c =
     let a = c.args in
-    c.loop-j.invariant.1 ∙ ap (λ (k : ℕ). put a.dst.now a.at (take k (drop a.from a.src.now))) all
+    let n : a.at + a.n - a.at ≡ a.n = omega arith in
+    let m : a.from + a.n - a.from ≡ a.n = omega arith in
+    let is : c.copy_from_slice.new.self ≡ take a.n (drop a.from a.src.now) = c.copy_from_slice.ensures.after ∙ ap (λ (k : ℕ). take k (drop a.from a.src.now)) m in
+    let long : length (take a.n (drop a.from a.src.now)) ≡ a.at + a.n - a.at = length-take-le a.n (drop a.from a.src.now) (simp length-drop (omega arith)) ∙ omega arith in
+    rw is (put_part a.dst.now (take a.n (drop a.from a.src.now)) a.at (a.at + a.n - a.at) long (omega arith))

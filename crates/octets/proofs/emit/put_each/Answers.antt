@@ -6,14 +6,14 @@ use lib.Seq.{take-suc, take_all}
 use Rattle.octets.proofs.Emits.{nothing, then}
 use Rattle.octets.proofs.emit.put_each.Goals as goal
 
-pub loop-i-init : goal.loop-i-init
-loop-i-init c = (search rules, search rules, nothing _ _ (search rules) (search rules))
+pub loop-x-init : goal.loop-x-init
+loop-x-init g c = (search rules, search rules, nothing _ _ (search rules) (search rules))
 
-pub loop-i-preserved : goal.loop-i-preserved
-loop-i-preserved c =
-    let l = c in let s = l.args.s.now in
-    let h : l.loop-i.i < length s = search rules in
-    (search rules, search rules, rw (add-one, take-suc s l.loop-i.i 0) (then l.loop-i.invariant.2 c.put_octet-next.ensures))
+pub loop-x-preserved : goal.loop-x-preserved
+loop-x-preserved g c =
+    let s = c.args.s.now in
+    let h : c.loop-x.x-index < length s = search rules in
+    (search rules, search rules, rw (add-one, take-suc s c.loop-x.x-index c.x-item.result, ← c.x-item.is) (then c.loop-x.invariant.2 c.put_one-next.ensures))
 
 pub returns : goal.returns
-returns c = rw (take_all c.loop-i.i c.args.s.now (search rules)) at c.loop-i.invariant.2
+returns g c = rw (take_all c.loop-x.x-index c.args.s.now (search rules)) at c.loop-x.invariant.2

@@ -8,15 +8,15 @@ use Rattle.octets.proofs.Emits.{nothing, then}
 use Rattle.octets.proofs.Digits.{each_snoc}
 use Rattle.octets.proofs.text.put_hex.Goals as goal
 
-pub loop-i-init : goal.loop-i-init
+pub loop-x-init : goal.loop-x-init
 unfolding each
-loop-i-init c = (search rules, search rules, nothing _ _ (search rules) (search rules))
+loop-x-init c = (search rules, search rules, nothing _ _ (search rules) (search rules))
 
-pub loop-i-preserved : goal.loop-i-preserved
-loop-i-preserved c =
+pub loop-x-preserved : goal.loop-x-preserved
+loop-x-preserved c =
     let l = c in let s = l.args.s.now in
-    let h : l.loop-i.i < length s = search rules in
-    (search rules, search rules, rw (add-one, take-suc s l.loop-i.i 0, each_snoc) (then l.loop-i.invariant.2 c.put_hex_octet-next.ensures))
+    let h : l.loop-x.x-index < length s = search rules in
+    (search rules, search rules, rw (add-one, take-suc s l.loop-x.x-index 0, each_snoc) (then l.loop-x.invariant.2 c.put_hex_octet-next.ensures))
 
 pub returns : goal.returns
-returns c = rw (take_all c.loop-i.i c.args.s.now (search rules)) at c.loop-i.invariant.2
+returns c = rw (take_all c.loop-x.x-index c.args.s.now (search rules)) at c.loop-x.invariant.2

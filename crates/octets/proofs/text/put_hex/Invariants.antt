@@ -1,14 +1,10 @@
--- The invariant: the first i octets of s are put in hex.
 use mathlib.Core.Path.{◌≡◌}
-use Prim.Native.Nat.{◌≤◌, ◌-◌}
+use Prim.Native.Nat.{◌≤◌}
 use lib.ListN.{length, take}
 use Rattle.octets.specs.Emit.{Emits}
 use Rattle.octets.specs.Text.{hex}
 use Rattle.octets.proofs.text.put_hex.Given as goal
 
 -- The invariant: the first i octets of s are put in hex.
-abbrev pub invariant-loop-i : goal.invariant-loop-i
-invariant-loop-i l = (l.i ≤ length l.s) × (length l.out ≡ length l.initial.out) × Emits l.initial.out l.at (hex (take l.i l.s)) l.out l.next
-
-abbrev pub decreases-loop-i : goal.decreases-loop-i
-decreases-loop-i l = length l.s - l.i
+abbrev pub invariant-loop-x : goal.invariant-loop-x
+invariant-loop-x l = (l.x-index ≤ length l.s) × (length l.out ≡ length l.initial.out) × Emits l.initial.out l.at (hex (take l.x-index l.s)) l.out l.next

@@ -14,17 +14,17 @@ use Rattle.pool.proofs.link.expire.Goals.{At-loop-j, Start}
 use Rattle.pool.proofs.link.expire.Goals as goal
 
 st-good : (c : Start) → Good c.args.words.now c.args.times.now c.args.list.now c.args.home.now c.args.blocks.now
-st-good c = good c.args.words.now c.args.times.now c.args.list.now c.args.home.now c.args.blocks.now c.requires.blocks_value
+st-good c = good c.args.words.now c.args.times.now c.args.list.now c.args.home.now c.args.blocks.now c.requires.is_sound
 
 st-near : (c : Start) → Near c.args.words.now c.args.l 0
-st-near c = near c.args.words.now c.args.l 0 (st-good c).tab c.requires.l_bound (omega arith)
+st-near c = near c.args.words.now c.args.l 0 (st-good c).tab c.requires.in_range (omega arith)
 
 module _ (c : At-loop-j) where
   gd : Good c.loop-j.words c.loop-j.times c.loop-j.list c.loop-j.home c.args.blocks.now
-  gd = good c.loop-j.words c.loop-j.times c.loop-j.list c.loop-j.home c.args.blocks.now c.loop-j.invariant.4
+  gd = good c.loop-j.words c.loop-j.times c.loop-j.list c.loop-j.home c.args.blocks.now c.loop-j.invariant.0
 
   lk : c.args.l < links c.loop-j.words
-  lk = omega (arith, c.requires.l_bound, c.loop-j.invariant.5.on-links)
+  lk = omega (arith, c.requires.in_range, c.loop-j.invariant.1.on-links)
 
   nr : Near c.loop-j.words c.args.l 0
   nr = near c.loop-j.words c.args.l 0 gd.tab lk (omega arith)
@@ -33,13 +33,13 @@ module _ (c : At-loop-j) where
   pl = gd.places
 
   lng : length (get_or (pend c.loop-j.words c.loop-j.times c.loop-j.list c.args.blocks.now) c.args.l []) ≡ c.loop-j.u
-  lng = view-long c.loop-j.words c.loop-j.times c.loop-j.list c.args.blocks.now c.args.l lk ∙ sym c.loop-j.invariant.6
+  lng = view-long c.loop-j.words c.loop-j.times c.loop-j.list c.args.blocks.now c.args.l lk ∙ sym c.loop-j.invariant.2
 
   tm : c.loop-j.j < c.loop-j.u → (get_or (get_or (pend c.loop-j.words c.loop-j.times c.loop-j.list c.args.blocks.now) c.args.l []) c.loop-j.j blank).time ≡ get_or c.loop-j.times (8 * c.args.l + c.loop-j.j) nan
-  tm h = view-time c.loop-j.words c.loop-j.times c.loop-j.list c.args.blocks.now c.args.l lk c.loop-j.j (omega (arith, c.loop-j.invariant.6, h))
+  tm h = view-time c.loop-j.words c.loop-j.times c.loop-j.list c.args.blocks.now c.args.l lk c.loop-j.j (omega (arith, c.loop-j.invariant.2, h))
 
   ln0 : c.args.l < length (pend c.args.words.now c.args.times.now c.args.list.now c.args.blocks.now)
-  ln0 = omega (arith, c.requires.l_bound, pend-long c.args.words.now c.args.times.now c.args.list.now c.args.blocks.now)
+  ln0 = omega (arith, c.requires.in_range, pend-long c.args.words.now c.args.times.now c.args.list.now c.args.blocks.now)
 
 pub overflow_add-u : goal.overflow_add-u
 overflow_add-u c = omega (arith, st-near (goal.at.overflow_add-u c).Start)
@@ -53,19 +53,13 @@ bounds-words-l c = omega (arith, st-near (goal.at.bounds-words-l c).Start)
 pub loop-j-init : goal.loop-j-init
 loop-j-init c =
     let a = c.args in
-    (refl, refl, refl, refl, c.requires.blocks_value, settings-refl a.words.now, refl, omega arith, going_start a.at (pend a.words.now a.times.now a.list.now a.blocks.now) a.l)
-
-pub overflow_mul-l : goal.overflow_mul-l
-overflow_mul-l c = omega (arith, nr (goal.at.overflow_mul-l c).At-loop-j, c.loop-j.invariant.6)
+    (c.requires.is_sound, settings-refl a.words.now, refl, omega arith, going_start a.at (pend a.words.now a.times.now a.list.now a.blocks.now) a.l)
 
 pub overflow_add-l : goal.overflow_add-l
-overflow_add-l c = omega (arith, nr (goal.at.overflow_add-l c).At-loop-j, c.loop-j.invariant.6)
+overflow_add-l c = omega (arith, nr (goal.at.overflow_add-l c).At-loop-j, c.loop-j.invariant.2)
 
 pub place_at-q-requires : goal.place_at-q-requires
-place_at-q-requires c = omega (arith, nr (goal.at.place_at-q-requires c).At-loop-j, pl (goal.at.place_at-q-requires c).At-loop-j, c.loop-j.invariant.6)
-
-pub overflow_add-j : goal.overflow_add-j
-overflow_add-j c = omega (arith, nr (goal.at.overflow_add-j c).At-loop-j, c.loop-j.invariant.6)
+place_at-q-requires c = omega (arith, nr (goal.at.place_at-q-requires c).At-loop-j, pl (goal.at.place_at-q-requires c).At-loop-j, c.loop-j.invariant.2)
 
 pub loop-j-preserved-then-fresh : goal.loop-j-preserved-then-fresh
 loop-j-preserved-then-fresh c =
@@ -75,20 +69,16 @@ loop-j-preserved-then-fresh c =
       i.0,
       i.1,
       i.2,
-      i.3,
-      i.4,
-      i.5,
-      i.6,
       omega arith,
-      going-fresh a.at (pend a.words.now a.times.now a.list.now a.blocks.now) (pend p.loop-j.words p.loop-j.times p.loop-j.list a.blocks.now) a.l p.loop-j.j (ln0 p) i.8 (omega (arith, lng p))
-          (ap (fresh_t a.at) (tm p c.loop-j-test.true ∙ sym c.place_at-q.ensures.time_value) ∙ sym c.fresh.ensures ∙ c.if-fresh.true),
+      going-fresh a.at (pend a.words.now a.times.now a.list.now a.blocks.now) (pend p.loop-j.words p.loop-j.times p.loop-j.list a.blocks.now) a.l p.loop-j.j (ln0 p) i.4 (omega (arith, lng p))
+          (ap (fresh_t a.at) (tm p c.loop-j-test.true ∙ sym c.place_at-q.ensures.time_read) ∙ sym c.fresh.ensures ∙ c.if-fresh.true),
     )
 
 pub remove-requires : goal.remove-requires
 remove-requires c =
     record {
-      blocks_value = c.loop-j.invariant.4;
-      l_bound = (lk (goal.at.remove-requires c).At-loop-j, omega (arith, c.loop-j.invariant.6));
+      is_sound = c.loop-j.invariant.0;
+      in_range = (lk (goal.at.remove-requires c).At-loop-j, omega (arith, c.loop-j.invariant.2));
     }
 
 pub loop-j-preserved : goal.loop-j-preserved
@@ -98,32 +88,16 @@ loop-j-preserved c =
     let a = c.args in
     let d = c.remove in
     let tk : p.loop-j.j < p.loop-j.u = c.loop-j-test.true in
-    let e : units d.new.words a.l ≡ units p.loop-j.words a.l - 1 = d.ensures.l_after in
-    let n : p.loop-j.u - 1 ≡ units d.new.words a.l = omega (arith, i.6) in (
-      d.auto.words ∙ i.0,
-      d.auto.times ∙ i.1,
-      d.auto.list ∙ i.2,
-      d.auto.home ∙ i.3,
-      d.ensures.blocks_after,
-      settings_trans a.words.now p.loop-j.words d.new.words i.5 d.ensures.same_settings,
+    let e : units d.new.words a.l ≡ units p.loop-j.words a.l - 1 = d.ensures.counted in
+    let n : p.loop-j.u - 1 ≡ units d.new.words a.l = omega (arith, i.2) in (
+      d.ensures.stays_sound,
+      settings_trans a.words.now p.loop-j.words d.new.words i.1 d.ensures.same_settings,
       n,
       omega arith,
-      going_stale a.at (pend a.words.now a.times.now a.list.now a.blocks.now) (pend p.loop-j.words p.loop-j.times p.loop-j.list a.blocks.now) a.l p.loop-j.j (ln0 p) i.8
-          (pend d.new.words d.new.times d.new.list a.blocks.now) d.ensures.blocks_after_2 (omega (arith, lng p))
-          (ap (fresh_t a.at) (tm p c.loop-j-test.true ∙ sym c.place_at-q.ensures.time_value) ∙ sym c.fresh.ensures ∙ c.if-fresh.false),
+      going_stale a.at (pend a.words.now a.times.now a.list.now a.blocks.now) (pend p.loop-j.words p.loop-j.times p.loop-j.list a.blocks.now) a.l p.loop-j.j (ln0 p) i.4
+          (pend d.new.words d.new.times d.new.list a.blocks.now) d.ensures.pending (omega (arith, lng p))
+          (ap (fresh_t a.at) (tm p c.loop-j-test.true ∙ sym c.place_at-q.ensures.time_read) ∙ sym c.fresh.ensures ∙ c.if-fresh.false),
     )
-
-pub shape_of-words : goal.shape_of-words
-shape_of-words c = c.loop-j.invariant.0
-
-pub shape_of-times : goal.shape_of-times
-shape_of-times c = c.loop-j.invariant.1
-
-pub shape_of-list : goal.shape_of-list
-shape_of-list c = c.loop-j.invariant.2
-
-pub shape_of-home : goal.shape_of-home
-shape_of-home c = c.loop-j.invariant.3
 
 pub returns : goal.returns
 returns c =
@@ -131,7 +105,7 @@ returns c =
     let i = p.loop-j.invariant in
     let a = c.args in
     record {
-      blocks_after = i.4;
-      blocks_after_2 = going_end a.at (pend a.words.now a.times.now a.list.now a.blocks.now) (pend p.loop-j.words p.loop-j.times p.loop-j.list a.blocks.now) a.l p.loop-j.j (ln0 p) i.8 (omega (arith, lng p));
-      same_settings = i.5;
+      stays_sound = i.0;
+      pending = going_end a.at (pend a.words.now a.times.now a.list.now a.blocks.now) (pend p.loop-j.words p.loop-j.times p.loop-j.list a.blocks.now) a.l p.loop-j.j (ln0 p) i.4 (omega (arith, lng p));
+      same_settings = i.1;
     }

@@ -1,28 +1,22 @@
-use mathlib.Core.Path.{◌≡◌, sym, ap, ◌∙◌}
+use Prim.Native.Nat.{◌+◌, ◌*◌, ◌-◌}
+use mathlib.Core.Path.{◌≡◌, ◌∙◌}
 use native.Mathlib.Omega.{arith}
-use borrow.Author.Tests.{ne_eqb, eq-eqb}
-use lib.ListN.{get_or}
 use lib.Dec.{eqb}
-use Rattle.octets.specs.Tests.{all}
-use Rattle.octets.proofs.Tests.{all_none, all_more, all-fails}
+use lib.ListN.{length, get_or, take, drop, length-drop}
+use lib.Seq.{get_or-take, get_or-drop, length-take-le}
+use Rattle.tables.proofs.Sums.{all_same, pairs}
 use Rattle.tables.specs.Tables.{word}
 use Rattle.pool.proofs.link.key_at.Goals as goal
 
-pub loop-k-init : goal.loop-k-init
-loop-k-init c = (omega arith, all_none (λ x. eqb (word c.args.words.now c.args.p x) (get_or c.args.key.now x 0)))
-
-pub returns-then-words-p : goal.returns-then-words-p
-returns-then-words-p c =
-    let a = c.args in
-    sym (all-fails (λ x. eqb (word a.words.now a.p x) (get_or a.key.now x 0)) c.loop-k.k 6 (omega arith) (ne_eqb _ _ c.if-words-p.true))
-
-pub loop-k-preserved : goal.loop-k-preserved
-loop-k-preserved c =
-    let a = c.args in
-    (omega arith, all_more (λ x. eqb (word a.words.now a.p x) (get_or a.key.now x 0)) c.loop-k.k c.loop-k.invariant.1 (eq-eqb _ _ c.if-words-p.false))
-
 pub returns : goal.returns
 returns c =
-    let a = c.args in
-    let e : c.loop-k.k ≡ 6 = omega arith in
-    sym (ap (all (λ x. eqb (word a.words.now a.p x) (get_or a.key.now x 0))) (sym e) ∙ c.loop-k.invariant.1)
+    let w = c.args.words.now in
+    let at = 40 + 12 * c.args.p in
+    let key = c.args.key.now in
+    let n : at + 6 - at ≡ 6 = omega arith in
+    let own = take (at + 6 - at) (drop at w) in
+    let long : length own ≡ 6 = length-take-le (at + 6 - at) (drop at w) (simp length-drop (omega arith)) ∙ n in
+    c.eq.ensures
+    ∙ pairs 6 own key long c.requires.2
+    ∙ all_same (λ k. eqb (get_or own k 0) (get_or key k 0)) (λ k. eqb (word w c.args.p k) (get_or key k 0)) 6
+    (λ k h. rw (get_or-take (at + 6 - at) (drop at w) k 0 (omega (arith, h, n)), get_or-drop at w k 0))

@@ -62,15 +62,6 @@ judged c =
     ap (λ (y : ℕ). y + (count w s.args.l - reserve w)) (c.over_of-e.ensures ∙ ap (over (reserve w)) (c.recounted.ensures ∙ ap (λ (g : List ℕ). set g s.args.l (count w s.args.l + s.args.n - s.args.k)) c.ledger_of.ensures))
     ∙ over-after w t.set t.each s.args.l (count w s.args.l + s.args.n - s.args.k) (near w s.args.l 0 t s.requires.1 (omega arith)).low-link (omega (arith, t.long))
 
-pub overflow_add-l : goal.overflow_add-l
-overflow_add-l c = omega (arith, bd (goal.at.overflow_add-l c).Start)
-
-pub offset_bounds-words-l : goal.offset_bounds-words-l
-offset_bounds-words-l c = omega (arith, bd (goal.at.offset_bounds-words-l c).Start)
-
-pub bounds-words-l : goal.bounds-words-l
-bounds-words-l c = omega (arith, bd (goal.at.bounds-words-l c).Start)
-
 pub overflow_add-words : goal.overflow_add-words
 overflow_add-words c = omega (arith, bd (goal.at.overflow_add-words c).Start)
 
@@ -85,39 +76,18 @@ returns-then-n-k c =
     let t = tables a.words.now c.requires.0 in
     sym (less-2 a.words.now a.l a.u a.k a.n c.if-words-l-gt8.false t (own a.words.now a.l t c.requires.1) c.requires.3 c.if-n-k.true)
 
-pub overflow_add-before : goal.overflow_add-before
-overflow_add-before c = omega (arith, bd (goal.at.overflow_add-before c).Start)
-
-pub offset_bounds-words-l-2 : goal.offset_bounds-words-l-2
-offset_bounds-words-l-2 c = omega (arith, bd (goal.at.offset_bounds-words-l-2 c).Start)
-
-pub bounds-words-l-2 : goal.bounds-words-l-2
-bounds-words-l-2 c = omega (arith, bd (goal.at.bounds-words-l-2 c).Start)
-
 pub overflow_add-after : goal.overflow_add-after
 overflow_add-after c = omega (arith, bd (goal.at.overflow_add-after c).Start)
-
-pub bounds-words-4 : goal.bounds-words-4
-bounds-words-4 c = omega (arith, bd (goal.at.bounds-words-4 c).Start)
 
 pub returns-then-words-after : goal.returns-then-words-after
 returns-then-words-after c =
     let a = c.args in
     sym (says-12 a.words.now a.l a.u a.k a.n c.if-words-l-gt8.false c.if-words-after.true)
 
-pub bounds-words-3 : goal.bounds-words-3
-bounds-words-3 c = omega (arith, bd (goal.at.bounds-words-3 c).Start)
-
 pub returns-then-after-r : goal.returns-then-after-r
 returns-then-after-r c =
     let a = c.args in
     sym (within-2 a.words.now a.l a.u a.k a.n c.if-words-l-gt8.false c.if-words-after.false (tables a.words.now c.requires.0) c.if-after-r.true)
-
-pub ledger_of-requires : goal.ledger_of-requires
-ledger_of-requires c = (bd (goal.at.ledger_of-requires c).Start).long
-
-pub recounted-requires : goal.recounted-requires
-recounted-requires c = (bd (goal.at.recounted-requires c).Start).low-link
 
 pub over_of-e-requires : goal.over_of-e-requires
 over_of-e-requires c =
@@ -126,18 +96,6 @@ over_of-e-requires c =
     let t = tables w c.requires.0 in
     let b = bd (goal.at.over_of-e-requires c).Start in
     λ i h. omega (arith, ap (λ (g : List ℕ). get_or g i 0) (changed (goal.at.over_of-e-requires c).After-recounted), after-low w t.set t.each a.l (count w a.l + a.n - a.k) b.low-link (omega (arith, b.long)) (omega (arith, c.if-words-after.false, b.capped)) i h)
-
-pub bounds-words-2 : goal.bounds-words-2
-bounds-words-2 c = omega (arith, bd (goal.at.bounds-words-2 c).Start)
-
-pub bounds-words-1 : goal.bounds-words-1
-bounds-words-1 c = omega (arith, bd (goal.at.bounds-words-1 c).Start)
-
-pub overflow_mul-words : goal.overflow_mul-words
-overflow_mul-words c = omega (arith, bd (goal.at.overflow_mul-words c).Start)
-
-pub overflow_sub-words : goal.overflow_sub-words
-overflow_sub-words c = omega (arith, bd (goal.at.overflow_sub-words c).Start)
 
 pub returns-then-words-r : goal.returns-then-words-r
 returns-then-words-r c =

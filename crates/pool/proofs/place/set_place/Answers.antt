@@ -1,12 +1,12 @@
 use Prim.Native.Nat.{ℕ, suc, ◌+◌, ◌*◌}
-use mathlib.Core.Path.{◌≡◌, refl, sym, ap, ◌∙◌}
+use mathlib.Core.Path.{◌≡◌, sym, ap, ◌∙◌}
 use mathlib.Core.List.{List, [], ◌∷◌, ◌++◌}
 use native.Mathlib.Omega.{arith}
 use borrow.Author.Rules.{rules}
-use lib.ListN.{length, get_or, set, take, length-set}
+use lib.ListN.{length, set}
 use lib.Seq.{take_all}
 use Rattle.octets.specs.Emit.{put}
-use Rattle.octets.proofs.Put.{put_nil, put_next, put-put}
+use Rattle.octets.proofs.Put.{put-put}
 use Rattle.pool.proofs.place.set_place.Goals as goal
 
 -- the five words behind the key, set one after the other
@@ -25,42 +25,9 @@ tail w key at v₁ v₂ v₃ v₄ v₅ h =
     let e : put (put w at key) (at + 6) vs ≡ tail-set (put w at key) at v₁ v₂ v₃ v₄ v₅ = rw (a, b, c, d) in
     sym e ∙ ap (λ (i : ℕ). put (put w at key) i vs) (sym n) ∙ put-put w at key vs
 
-pub loop-k-init : goal.loop-k-init
-loop-k-init c = (omega arith, sym (put_nil _ _), refl)
-
-pub loop-k-preserved : goal.loop-k-preserved
-loop-k-preserved c =
-    let x = c.loop-k in
+pub returns-clause-words_put : goal.returns-clause-words_put
+returns-clause-words_put c =
     let a = c.args in
     let long : length a.q.key ≡ 6 = search rules in
-    (omega arith, ap (λ (l : List ℕ). set l (40 + 12 * a.p + x.k) (get_or a.q.key x.k 0)) x.invariant.1 ∙ put_next a.words.now a.q.key (40 + 12 * a.p) x.k 0 (omega arith), simp length-set x.invariant.2)
-
-pub bounds-words-at-2 : goal.bounds-words-at-2
-bounds-words-at-2 c = omega (arith, c.loop-k.invariant.2)
-
-pub bounds-words-at-3 : goal.bounds-words-at-3
-bounds-words-at-3 c = simp length-set (omega (arith, c.loop-k.invariant.2))
-
-pub bounds-words-at-4 : goal.bounds-words-at-4
-bounds-words-at-4 c = simp length-set (omega (arith, c.loop-k.invariant.2))
-
-pub bounds-words-at-5 : goal.bounds-words-at-5
-bounds-words-at-5 c = simp length-set (omega (arith, c.loop-k.invariant.2))
-
-pub bounds-words-at-6 : goal.bounds-words-at-6
-bounds-words-at-6 c = simp length-set (omega (arith, c.loop-k.invariant.2))
-
-pub shape_of-words : goal.shape_of-words
-shape_of-words c = simp length-set c.loop-k.invariant.2
-
-pub returns : goal.returns
-returns c =
-    let a = c.args in
-    let l = c.loop-k in
-    let long : length a.q.key ≡ 6 = search rules in
-    let six : l.k ≡ 6 = omega arith in
-    let whole : l.words ≡ put a.words.now (40 + 12 * a.p) a.q.key = l.invariant.1 ∙ ap (λ (k : ℕ). put a.words.now (40 + 12 * a.p) (take k a.q.key)) six ∙ ap (put a.words.now (40 + 12 * a.p)) (take_all 6 a.q.key (omega arith)) in
-    record {
-      words_after = ap (λ (x : List ℕ). tail-set x (40 + 12 * a.p) a.q.note a.q.body a.q.top a.q.bodyblocks a.q.topblocks) whole ∙ tail a.words.now a.q.key (40 + 12 * a.p) a.q.note a.q.body a.q.top a.q.bodyblocks a.q.topblocks long;
-      times_after = refl;
-    }
+    let whole : c.copy.new.dst ≡ put a.words.now (40 + 12 * a.p) a.q.key = c.copy.ensures ∙ ap (put a.words.now (40 + 12 * a.p)) (take_all 6 a.q.key (omega arith)) in
+    ap (λ (x : List ℕ). tail-set x (40 + 12 * a.p) a.q.note a.q.body a.q.top a.q.bodyblocks a.q.topblocks) whole ∙ tail a.words.now a.q.key (40 + 12 * a.p) a.q.note a.q.body a.q.top a.q.bodyblocks a.q.topblocks long

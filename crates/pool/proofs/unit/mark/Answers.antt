@@ -13,22 +13,16 @@ use Rattle.pool.proofs.unit.mark.Goals.{Start}
 use Rattle.pool.proofs.unit.mark.Goals as goal
 
 gd : (c : Start) → Good c.args.words.now c.args.times.now c.args.list.now c.args.home.now c.args.blocks.now
-gd c = good c.args.words.now c.args.times.now c.args.list.now c.args.home.now c.args.blocks.now c.requires.blocks_value
+gd c = good c.args.words.now c.args.times.now c.args.list.now c.args.home.now c.args.blocks.now c.requires.is_sound
 
 rd : (c : Start) → Ready c.args.words.now c.args.l c.args.j 0
-rd c = ready c.args.words.now c.args.l c.args.j 0 (gd c).tab c.requires.l_bound.0 c.requires.l_bound.1 (omega arith)
-
-pub overflow_mul-l : goal.overflow_mul-l
-overflow_mul-l c = omega (arith, rd (goal.at.overflow_mul-l c).Start)
+rd c = ready c.args.words.now c.args.l c.args.j 0 (gd c).tab c.requires.in_range.0 c.requires.in_range.1 (omega arith)
 
 pub overflow_add-l : goal.overflow_add-l
 overflow_add-l c = omega (arith, rd (goal.at.overflow_add-l c).Start)
 
 pub place_at-q-requires : goal.place_at-q-requires
 place_at-q-requires c = omega (arith, rd (goal.at.place_at-q-requires c).Start, (gd (goal.at.place_at-q-requires c).Start).places)
-
-pub overflow_mul-l-2 : goal.overflow_mul-l-2
-overflow_mul-l-2 c = omega (arith, rd (goal.at.overflow_mul-l-2 c).Start)
 
 pub overflow_add-l-2 : goal.overflow_add-l-2
 overflow_add-l-2 c = omega (arith, rd (goal.at.overflow_add-l-2 c).Start)
@@ -42,13 +36,13 @@ returns c =
     let w = a.words.now in
     let tm = a.times.now in
     let g = gd (goal.at.returns c).Start in
-    let h = s.requires.l_bound in
+    let h = s.requires.in_range in
     let q = c.place_at-q.ensures in
-    let e : c.set_place.new.words ≡ mark_words w a.l a.j a.note = marked_words w _ _ (8 * a.l + a.j) a.note _ _ _ _ (omega (arith, rd (goal.at.returns c).Start)) q.key_value q.body_value q.top_value q.bodyblocks_value q.topblocks_value c.set_place.ensures.words_after in
-    let f : c.set_place.new.times ≡ set tm (8 * a.l + a.j) a.at = c.set_place.ensures.times_after in record {
-      blocks_after = ap₂ (λ (x : List ℕ) (y : List Float). sound x y a.list.now a.home.now a.blocks.now) e f
+    let e : c.set_place.new.words ≡ mark_words w a.l a.j a.note = marked_words w _ _ (8 * a.l + a.j) a.note _ _ _ _ (omega (arith, rd (goal.at.returns c).Start)) q.key_read q.body_read q.top_read q.bodyblocks_read q.topblocks_read c.set_place.ensures.words_put in
+    let f : c.set_place.new.times ≡ set tm (8 * a.l + a.j) a.at = c.set_place.ensures.time_set in record {
+      stays_sound = ap₂ (λ (x : List ℕ) (y : List Float). sound x y a.list.now a.home.now a.blocks.now) e f
           ∙ good_of _ _ _ _ _ (marked-good w tm a.list.now a.home.now a.blocks.now a.l a.j a.note a.at g h.0 h.1);
-      blocks_after_2 = ap₂ (λ (x : List ℕ) (y : List Float). pend x y a.list.now a.blocks.now) e f
+      pending = ap₂ (λ (x : List ℕ) (y : List Float). pend x y a.list.now a.blocks.now) e f
           ∙ marked-pend w tm a.list.now a.home.now a.blocks.now a.l a.j a.note a.at g h.0 h.1;
       same_settings = subst (λ (x : List ℕ). SameSettings w x) (sym e) (mark_settings w tm a.l a.j a.note a.at g.tab g.places h.0 h.1);
     }

@@ -16,25 +16,14 @@ use Rattle.pool.proofs.unit.read.Goals.{Start}
 use Rattle.pool.proofs.unit.read.Goals as goal
 
 gd : (c : Start) → Good c.args.words.now c.args.times.now c.args.list.now c.args.home.now c.args.blocks.now
-gd c = good c.args.words.now c.args.times.now c.args.list.now c.args.home.now c.args.blocks.now c.requires.blocks_value
+gd c = good c.args.words.now c.args.times.now c.args.list.now c.args.home.now c.args.blocks.now c.requires.is_sound
 
 rd : (c : Start) → Ready c.args.words.now c.args.l c.args.j c.args.part
-rd c = ready c.args.words.now c.args.l c.args.j c.args.part (gd c).tab c.requires.l_bound.0 c.requires.l_bound.1 c.requires.l_bound.2
-
-pub bounds-words-2 : goal.bounds-words-2
-bounds-words-2 c = omega (arith, rd (goal.at.bounds-words-2 c).Start)
-
-pub all_used-m-requires : goal.all_used-m-requires
-all_used-m-requires c =
-    let t = (gd (goal.at.all_used-m-requires c).Start).tab in
-    (t.long, t.set, t.each)
+rd c = ready c.args.words.now c.args.l c.args.j c.args.part (gd c).tab c.requires.in_range.0 c.requires.in_range.1 c.requires.in_range.2
 
 pub start_of-s-requires : goal.start_of-s-requires
 start_of-s-requires c =
-    (tables_of c.args.words.now (gd (goal.at.start_of-s-requires c).Start).tab, c.requires.l_bound.0, omega (arith, c.requires.l_bound))
-
-pub overflow_mul-l : goal.overflow_mul-l
-overflow_mul-l c = omega (arith, rd (goal.at.overflow_mul-l c).Start)
+    (tables_of c.args.words.now (gd (goal.at.start_of-s-requires c).Start).tab, c.requires.in_range.0, omega (arith, c.requires.in_range))
 
 pub overflow_add-l : goal.overflow_add-l
 overflow_add-l c = omega (arith, rd (goal.at.overflow_add-l c).Start)
@@ -44,9 +33,6 @@ part_start-a-requires c =
     let r = rd (goal.at.part_start-a-requires c).Start in
     (omega (arith, r), r.close.long, c.start_of-s.ensures.1, r.top-at)
 
-pub overflow_mul-d : goal.overflow_mul-d
-overflow_mul-d c = omega (arith, rd (goal.at.overflow_mul-d c).Start)
-
 pub overflow_add-d : goal.overflow_add-d
 overflow_add-d c = omega (arith, rd (goal.at.overflow_add-d c).Start)
 
@@ -55,9 +41,6 @@ overflow_mul-d-2 c = omega (arith, rd (goal.at.overflow_mul-d-2 c).Start)
 
 pub overflow_add-d-2 : goal.overflow_add-d-2
 overflow_add-d-2 c = omega (arith, rd (goal.at.overflow_add-d-2 c).Start)
-
-pub overflow_add-d-3 : goal.overflow_add-d-3
-overflow_add-d-3 c = omega (arith, rd (goal.at.overflow_add-d-3 c).Start)
 
 pub overflow_add-d-4 : goal.overflow_add-d-4
 overflow_add-d-4 c = omega (arith, rd (goal.at.overflow_add-d-4 c).Start)
@@ -82,12 +65,12 @@ read_at-requires c =
     let e = begins s.args.words.now s.args.l s.args.j s.args.part c.start_of-s.result c.part_start-a.result c.start_of-s.ensures.0 c.part_start-a.ensures in
     let hm : used_of w (links w) ≤ length a.list.now = omega (arith, r.close.fits, g.listed) in
     let ch : chain_ok (blocks_in w) (take c.all_used-m.result a.list.now) ≡ true = ap (λ (m : ℕ). chain_ok (blocks_in w) (take m a.list.now)) u ∙ homed-chain a.home.now a.list.now (blocks_in w) (used_of w (links w)) g.chain hm in
-    (omega (arith, r.close.fits, u), omega (arith, hm, u), ch, g.room, omega (arith, r.inside, r.filled, u, e), omega (arith, s.requires.l_bound))
+    (omega (arith, r.close.fits, u), omega (arith, hm, u), ch, g.room, omega (arith, r.inside, r.filled, u, e), omega (arith, s.requires.in_range))
 
 pub returns : goal.returns
 returns c =
     let s = c in let a = s.args in
-    let p = s.requires.l_bound in
+    let p = s.requires.in_range in
     let w = a.words.now in
     let list = a.list.now in
     let bs = a.blocks.now in
@@ -99,6 +82,6 @@ returns c =
     ∙ ap (λ (o : ℕ). take d (drop (64 * o) (octets w list bs))) e
     ∙ sym (part-is w a.times.now list a.home.now bs a.l a.j a.part (gd (goal.at.returns c).Start) p.0 p.1 p.2) in
     record {
-      value = sym (part-long w a.times.now list a.home.now bs a.l a.j a.part (gd (goal.at.returns c).Start) p.0 p.1 p.2);
-      out_after = c.read_at.ensures ∙ ap (put a.out.now a.at) x;
+      length_read = sym (part-long w a.times.now list a.home.now bs a.l a.j a.part (gd (goal.at.returns c).Start) p.0 p.1 p.2);
+      copied = c.read_at.ensures ∙ ap (put a.out.now a.at) x;
     }

@@ -16,30 +16,19 @@ use Rattle.pool.proofs.unit.remove.Goals.{Start}
 use Rattle.pool.proofs.unit.remove.Goals as goal
 
 gd : (c : Start) → Good c.args.words.now c.args.times.now c.args.list.now c.args.home.now c.args.blocks.now
-gd c = good c.args.words.now c.args.times.now c.args.list.now c.args.home.now c.args.blocks.now c.requires.blocks_value
+gd c = good c.args.words.now c.args.times.now c.args.list.now c.args.home.now c.args.blocks.now c.requires.is_sound
 
 rd : (c : Start) → Ready c.args.words.now c.args.l c.args.j 0
-rd c = ready c.args.words.now c.args.l c.args.j 0 (gd c).tab c.requires.l_bound.0 c.requires.l_bound.1 (omega arith)
+rd c = ready c.args.words.now c.args.l c.args.j 0 (gd c).tab c.requires.in_range.0 c.requires.in_range.1 (omega arith)
 
 -- the two runs that stay, by what the calls gave
 parts : (list : List ℕ) (s s₀ k k₀ m m₀ : ℕ) → s ≡ s₀ → k ≡ k₀ → m ≡ m₀
     → take s list ++ take (m - (s + k)) (drop (s + k) list) ≡ take s₀ list ++ take (m₀ - (s₀ + k₀)) (drop (s₀ + k₀) list)
 parts list s s₀ k k₀ m m₀ a b c = rw (a, b, c)
 
-pub bounds-words-2 : goal.bounds-words-2
-bounds-words-2 c = omega (arith, rd (goal.at.bounds-words-2 c).Start)
-
-pub all_used-m-requires : goal.all_used-m-requires
-all_used-m-requires c =
-    let t = (gd (goal.at.all_used-m-requires c).Start).tab in
-    (t.long, t.set, t.each)
-
 pub start_of-s-requires : goal.start_of-s-requires
 start_of-s-requires c =
-    let s = c in (tables_of s.args.words.now (gd (goal.at.start_of-s-requires c).Start).tab, s.requires.l_bound.0, omega (arith, s.requires.l_bound))
-
-pub overflow_mul-l : goal.overflow_mul-l
-overflow_mul-l c = omega (arith, rd (goal.at.overflow_mul-l c).Start)
+    let s = c in (tables_of s.args.words.now (gd (goal.at.start_of-s-requires c).Start).tab, s.requires.in_range.0, omega (arith, s.requires.in_range))
 
 pub overflow_add-l : goal.overflow_add-l
 overflow_add-l c = omega (arith, rd (goal.at.overflow_add-l c).Start)
@@ -62,7 +51,7 @@ take_place-requires c =
     let s = c in let a = s.args in
     let r = rd (goal.at.take_place-requires c).Start in
     let e = c.place_cost-k.ensures.0 in
-    (r.close.low-link, s.requires.l_bound.1, r.close.few, r.close.long, (gd (goal.at.take_place-requires c).Start).places, e, omega (arith, e, inside a.words.now a.l a.j (gd (goal.at.take_place-requires c).Start).tab s.requires.l_bound.0 s.requires.l_bound.1))
+    (r.close.low-link, s.requires.in_range.1, r.close.few, r.close.long, (gd (goal.at.take_place-requires c).Start).places, e, omega (arith, e, inside a.words.now a.l a.j (gd (goal.at.take_place-requires c).Start).tab s.requires.in_range.0 s.requires.in_range.1))
 
 pub returns : goal.returns
 returns c =
@@ -71,7 +60,7 @@ returns c =
     let tm = a.times.now in
     let list = a.list.now in
     let g = gd (goal.at.returns c).Start in
-    let p = s.requires.l_bound in
+    let p = s.requires.in_range in
     let u = c.all_used-m.ensures in
     let st = c.start_of-s.ensures.0 in
     let kk = c.place_cost-k.ensures.0 in
@@ -86,8 +75,8 @@ returns c =
     let ch : homed home' list' (blocks_in w) (used_of w (links w) - k) ≡ true = ap (homed home' list' (blocks_in w)) (sym n) ∙ c.release.ensures.1 in
     let good' = less-good w tm list a.home.now a.blocks.now list' home' a.l a.j g p.0 p.1 c.release.auto.list c.release.auto.home rl ch in
     let pend' = less-pend w tm list a.home.now a.blocks.now list' home' a.l a.j g p.0 p.1 c.release.auto.list c.release.auto.home rl ch in record {
-      blocks_after = ap₂ (λ (v : List ℕ) (t : List Float). sound v t list' home' a.blocks.now) e.0 e.1 ∙ good_of _ _ _ _ _ good';
-      blocks_after_2 = ap₂ (λ (v : List ℕ) (t : List Float). pend v t list' a.blocks.now) e.0 e.1 ∙ pend';
+      stays_sound = ap₂ (λ (v : List ℕ) (t : List Float). sound v t list' home' a.blocks.now) e.0 e.1 ∙ good_of _ _ _ _ _ good';
+      pending = ap₂ (λ (v : List ℕ) (t : List Float). pend v t list' a.blocks.now) e.0 e.1 ∙ pend';
       same_settings = subst (λ (v : List ℕ). SameSettings w v) (sym e.0) (less-settings w tm a.l a.j g.tab g.places p.0 p.1);
-      l_after = ap (λ (v : List ℕ). units v a.l) e.0 ∙ less_settled w tm a.l a.j g.tab g.places p.0 p.1;
+      counted = ap (λ (v : List ℕ). units v a.l) e.0 ∙ less_settled w tm a.l a.j g.tab g.places p.0 p.1;
     }

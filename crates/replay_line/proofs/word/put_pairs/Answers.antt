@@ -1,29 +1,32 @@
-use Rattle.replay_line.proofs.Words.{no_pairs, pair_turn, pairs_done, packet-hex}
-use Rattle.replay_line.proofs.Words.{hex-low}
-use borrow.Author.Rules.{rules}
-use native.Mathlib.Omega.{arith}
-use mathlib.Core.Path.{refl}
-use Prim.Native.Nat.{◌+◌}
+use Rattle.std.proofs.Common.{rules, get_or, length, arith}
+use Rattle.octets.proofs.Emits.{onward, finish}
+use Rattle.octets.proofs.Tests.{all-at}
+use Rattle.replay_line.specs.Word.{is_hex}
+use Rattle.replay_line.proofs.Words.{hex_some, hex_more, placed, pair_first, pair_none}
 use Rattle.replay_line.proofs.word.put_pairs.Goals as goal
 
-pub loop-i-init : goal.loop-i-init
-loop-i-init c = (omega arith, refl, no_pairs _ _ _ (search rules) (search rules))
+pub loop-rest-init : goal.loop-rest-init
+loop-rest-init c = record { small = search rules; hex = c.requires; on = λ p n e. e }
 
-pub overflow_mul-digit_of : goal.overflow_mul-digit_of
-overflow_mul-digit_of c =
-    let w = c.args.w.now in
-    let i = c.loop-i.i in
-    omega (arith, c.digit_of.ensures, hex-low w i (packet-hex w c.requires (omega arith)) (omega arith))
+pub unwrap-high-requires : goal.unwrap-high-requires
+unwrap-high-requires c =
+    let w = c.loop-rest.rest.now in
+    hex_some (get_or w 0 0) _ (all-at (λ i. is_hex (get_or w i 0)) 0 (length w) c.loop-rest.invariant.hex (omega arith)) c.digit_of.ensures
 
-pub overflow_add-digit_of : goal.overflow_add-digit_of
-overflow_add-digit_of c =
-    let w = c.args.w.now in
-    let i = c.loop-i.i in
-    omega (arith, c.digit_of.ensures, c.digit_of-in-loop-i.ensures, hex-low w i (packet-hex w c.requires (omega arith)) (omega arith), hex-low w (i + 1) (packet-hex w c.requires (omega arith)) (omega arith))
+pub unwrap-low-requires : goal.unwrap-low-requires
+unwrap-low-requires c =
+    let w = c.loop-rest.rest.now in
+    hex_some (get_or w 1 0) _ (all-at (λ i. is_hex (get_or w i 0)) 1 (length w) c.loop-rest.invariant.hex (omega arith)) c.digit_of-in-len2-up.ensures
 
-pub loop-i-preserved : goal.loop-i-preserved
-loop-i-preserved c =
-    (omega arith, search rules, pair_turn _ _ _ _ _ _ _ _ _ _ c.loop-i.invariant.2 c.loop-i-test.true c.digit_of.ensures c.digit_of-in-loop-i.ensures c.put_octet-next.ensures)
+pub loop-rest-preserved : goal.loop-rest-preserved
+loop-rest-preserved c =
+    let w = c.loop-rest.rest.now in
+    record {
+      small = placed c.put_octet-next.ensures;
+      hex = hex_more w c.loop-rest.invariant.hex;
+      on = onward c.loop-rest.invariant.on c.put_octet-next.ensures
+          (pair_first w _ _ _ _ c.in-len2-up.len_at_least c.digit_of.ensures c.unwrap-high.ensures c.digit_of-in-len2-up.ensures c.unwrap-low.ensures);
+    }
 
 pub returns : goal.returns
-returns c = pairs_done _ _ _ _ _ _ c.loop-i.invariant.2 c.loop-i-test.false
+returns c = finish c.loop-rest.invariant.on (pair_none c.loop-rest.rest.now c.in_default.len_below) (search rules) c.loop-rest.invariant.small

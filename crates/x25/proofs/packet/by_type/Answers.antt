@@ -1,15 +1,16 @@
-use mathlib.Core.Path.{sym, ◌∙◌}
-use Rattle.x25.proofs.ByType.{is_data, is-rr, is-rnr, is-rej}
+use Rattle.std.proofs.Common.{arith, sym, ◌∙◌, ap, refl, ◌≡◌}
+use Rattle.x25.specs.Packet.{known}
+use Rattle.x25.proofs.ByType.{is_data, is-rr, is-rnr, is-rej, known-is}
 use Rattle.x25.proofs.packet.by_type.Goals as goal
 
 pub returns-then-t-eq0 : goal.returns-then-t-eq0
-returns-then-t-eq0 c = c.sequenced.ensures ∙ sym (is_data _ _ c.if-t-eq0.true)
+returns-then-t-eq0 c = known-is c.sequenced.ensures (λ z. omega (arith, z)) ∙ ap known (sym (is_data _ _ c.if-t-eq0.true))
 
-pub returns-then-t-eq1 : goal.returns-then-t-eq1
-returns-then-t-eq1 c = c.received.ensures ∙ sym (is-rr _ _ c.if-t-eq1.true)
+pub returns-in-1 : goal.returns-in-1
+returns-in-1 c = known-is c.received.ensures (λ z. omega (arith, z)) ∙ ap known (sym (is-rr _ _ c.in-1.is))
 
-pub returns-then-t-eq5 : goal.returns-then-t-eq5
-returns-then-t-eq5 c = c.received-then-t-eq5.ensures ∙ sym (is-rnr _ _ c.if-t-eq5.true)
+pub returns-in-5 : goal.returns-in-5
+returns-in-5 c = known-is c.received-in-5.ensures (λ z. omega (arith, z)) ∙ ap known (sym (is-rnr _ _ c.in-5.is))
 
-pub returns-then-t-eq9 : goal.returns-then-t-eq9
-returns-then-t-eq9 c = c.received-then-t-eq9.ensures ∙ sym (is-rej _ _ c.if-t-eq9.true)
+pub returns-in-9 : goal.returns-in-9
+returns-in-9 c = known-is c.received-in-9.ensures (λ z. omega (arith, z)) ∙ ap known (sym (is-rej _ _ c.in-9.is))

@@ -12,4 +12,4 @@ returns c =
     let named = opt_text k_cause_text x.causetext in
     let told = opt_number k_diagnostic x.diagnostic in
     let last = opt_text k_diagnostic_text x.diagtext in
-    then_row 1 cause (named ⊕ (told ⊕ last)) c.put_octet-caused.ensures (then_row 1 named (told ⊕ last) c.put_name-named.ensures (then_row 1 told last c.put_octet-told.ensures c.put_name.ensures))
+    then_row 1 cause (named ⊕ (told ⊕ last)) c.put_octet-caused.ensures (then_row 1 named (told ⊕ last) c.put_text_if-named.ensures (then_row 1 told last c.put_octet-told.ensures c.put_text_if.ensures))

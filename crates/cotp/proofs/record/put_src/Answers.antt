@@ -1,4 +1,0 @@
-use Rattle.cotp.proofs.record.put_src.Goals as goal
-
-pub returns : goal.returns
-returns c = rw c.u16_of.ensures at c.put_number.ensures
