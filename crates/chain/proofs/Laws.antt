@@ -1,29 +1,27 @@
--- Two runs that change places by a rotation of both.
+-- Two runs that change places by way of a copy.
 use Prim.Native.Nat.{ℕ, ◌+◌, ◌-◌, ◌≤◌}
-use mathlib.Core.Path.{◌≡◌, sym, ap, ◌∙◌}
+use mathlib.Core.Path.{◌≡◌, ap, ◌∙◌}
 use mathlib.Core.List.{List, ◌++◌, append_assoc}
 use native.Mathlib.Omega.{arith}
 use lib.ListN.{length, take, drop, length-append, length-drop}
-use lib.Seq.{take-take, drop-drop, length-take-le}
-use borrow.Rule.Slice.PartMut.{put_mid}
+use lib.Seq.{take_at, length-take-le}
+use Rattle.octets.specs.Emit.{put}
+use Rattle.octets.proofs.Put.{put_is, put-put}
 use Rattle.chain.specs.Chain.{swapped}
-use Rattle.chain.proofs.Moves.{take-drop}
 
-pub rotated : (l m : List ℕ) (p q e : ℕ) → p ≤ q → q ≤ e → m ≡ drop (q - p) (take (e - p) (drop p l)) ++ take (q - p) (take (e - p) (drop p l))
-    → put_mid p (e - p) l m ≡ swapped l p q e
-rotated l m p q e hp hq h =
-    let x : q - p + (e - q) ≡ e - p = omega arith in
-    let y : p + (q - p) ≡ q = omega arith in
-    let z : p + (e - p) ≡ e = omega arith in
-    let a : drop (q - p) (take (e - p) (drop p l)) ≡ take (e - q) (drop q l) =
-    ap (λ (k : ℕ). drop (q - p) (take k (drop p l))) (sym x) ∙ take-drop (q - p) (e - q) (drop p l) ∙ ap (take (e - q)) (drop-drop (q - p) p l ∙ ap (λ (k : ℕ). drop k l) y) in
-    let b : take (q - p) (take (e - p) (drop p l)) ≡ take (q - p) (drop p l) = take-take (q - p) (e - p) (drop p l) (omega arith) in
-    let c : drop (e - p) (drop p l) ≡ drop e l = drop-drop (e - p) p l ∙ ap (λ (k : ℕ). drop k l) z in
-    rw (h, a, b, c) (ap (λ (k : List ℕ). take p l ++ k) (append_assoc (take (e - q) (drop q l)) (take (q - p) (drop p l)) (drop e l)))
-
-pub length-swapped : (l : List ℕ) (p q e : ℕ) → p ≤ q → q ≤ e → e ≤ length l → length (swapped l p q e) ≡ length l
-length-swapped l p q e hp hq he =
-    let a : length (take p l) ≡ p = length-take-le p l (omega arith) in
-    let b : length (take (e - q) (drop q l)) ≡ e - q = length-take-le (e - q) (drop q l) (simp length-drop (omega arith)) in
-    let c : length (take (q - p) (drop p l)) ≡ q - p = length-take-le (q - p) (drop p l) (simp length-drop (omega arith)) in
-    simp (length-append, length-drop) (omega arith)
+-- two runs copied out in the other order, and copied back as one
+pub swap_law : (l s : List ℕ) (p q e : ℕ) → p ≤ q → q ≤ e → e ≤ length l → e - p ≤ length s
+    → put l p (take (e - p) (drop 0 (put (put s 0 (take (e - q) (drop q l))) (e - q) (take (q - p) (drop p l))))) ≡ swapped l p q e
+swap_law l s p q e hp hq he hs =
+    let a : List ℕ = take (e - q) (drop q l) in
+    let b : List ℕ = take (q - p) (drop p l) in
+    let la : length a ≡ e - q = length-take-le (e - q) (drop q l) (simp length-drop (omega arith)) in
+    let lb : length b ≡ q - p = length-take-le (q - p) (drop p l) (simp length-drop (omega arith)) in
+    let lab : length (a ++ b) ≡ e - p = simp length-append (omega arith) in
+    let e₀ : e - q ≡ 0 + length a = omega arith in
+    let both : put (put s 0 a) (e - q) b ≡ (a ++ b) ++ drop (0 + length (a ++ b)) s =
+    ap (λ (k : ℕ). put (put s 0 a) k b) e₀ ∙ put-put s 0 a b ∙ put_is s 0 (a ++ b) (omega arith) in
+    let cut : take (e - p) (put (put s 0 a) (e - q) b) ≡ a ++ b =
+    rw both (take_at (a ++ b) (drop (0 + length (a ++ b)) s) (e - p) lab) in
+    let end : p + length (a ++ b) ≡ e = omega arith in
+    ap (put l p) cut ∙ put_is l p (a ++ b) (omega arith) ∙ rw end (simp append_assoc)

@@ -4,7 +4,7 @@
 ghost use Rattle.std.specs.Prelude.{◌≡◌, true, ◌++◌, ℕ, ◌+◌, ◌*◌, ◌-◌, ◌≤◌, ◌<◌, length, get_or, take, drop};
 ghost use Rattle.octets.specs.Emit.{put};
 ghost use Rattle.octets.specs.Tests.{all};
-ghost use Rattle.chain.specs.Chain.{chain_ok, home_at, homed, in_use_at, flat, Stretch, Resized, Spliced};
+ghost use Rattle.chain.specs.Chain.{chain_ok, home_at, homed, in_use_at, flat, swapped, Stretch, Resized, Spliced};
 
 use crate::source::Source;
 use octets::emit::copy;
@@ -127,6 +127,29 @@ fn more(list: &mut [u16], home: &mut [u16], b: usize, n: usize, m: usize)
     }
 }
 
+// The runs from p to q and from q to e, N entries together at most, change places. Not by `rotate_left`: a push of 128 octets took
+// a third longer with it.
+fn swap_within<const N: usize>(list: &mut [u16], p: usize, q: usize, e: usize)
+    requires { (p ≤ q) × (q ≤ e) × (e ≤ length list.old) × (e ≤ p + N) × (N ≤ 1024) }
+    ensures { list.new ≡ swapped list.old p q e }
+{
+    let mut s = [0u16; N];
+    copy(&mut s, 0, list, q, e - q);
+    copy(&mut s, e - q, list, p, q - p);
+    copy(list, p, &s, 0, e - p);
+}
+
+fn swap_runs(list: &mut [u16], p: usize, q: usize, e: usize)
+    requires { (p ≤ q) × (q ≤ e) × (e ≤ length list.old) × (e ≤ p + 1024) }
+    ensures { list.new ≡ swapped list.old p q e }
+{
+    if e - p <= 128 {
+        swap_within::<128>(list, p, q, e)
+    } else {
+        swap_within::<1024>(list, p, q, e)
+    }
+}
+
 // m blocks that were free stand from p on, in front of what stood there.
 fn insert(list: &mut [u16], home: &mut [u16], b: usize, n: usize, p: usize, m: usize)
     requires { (p ≤ n) × (n + m ≤ b) × (b ≤ 1024) × (b ≤ length list.old) × (b ≤ length home.old) × (homed home.old list.old b n ≡ true) }
@@ -134,7 +157,7 @@ fn insert(list: &mut [u16], home: &mut [u16], b: usize, n: usize, p: usize, m: u
 {
     more(list, home, b, n, m);
     if p < n {
-        list[p..n + m].rotate_left(n - p);
+        swap_runs(list, p, n, n + m);
         rehome(list, home, b, p, n + m);
     }
 }
@@ -145,7 +168,7 @@ pub fn release(list: &mut [u16], home: &mut [u16], b: usize, n: usize, p: usize,
     ensures { (take (n - (q - p)) list.new ≡ take p list.old ++ take (n - q) (drop q list.old)) × (homed home.new list.new b (n - (q - p)) ≡ true) }
 {
     if q < n {
-        list[p..n].rotate_left(q - p);
+        swap_runs(list, p, q, n);
         rehome(list, home, b, p, n - (q - p));
     }
 }

@@ -18,23 +18,23 @@ pub mod sndcf;
 // A packet that was read, and its octets.
 #[derive(Clone, Copy)]
 struct Known<'a> {
-    packet: Packet,
+    packet: &'a Packet,
     octets: &'a [u8],
     ghost short: { length octets.now < 65536 },
-    ghost within: { packet.facat + packet.faclen ≤ length octets.now },
+    ghost within: { packet.now.facat + packet.now.faclen ≤ length octets.now },
 }
 
 impl Record for Known<'_> {
     ghost size = { λ x. length x.octets.now };
 
-    ghost members = { λ x. members_of x.octets.now x.packet };
+    ghost members = { λ x. members_of x.octets.now x.packet.now };
 
     fn len(&self) -> usize {
         self.octets.len()
     }
 
     fn put(&self, out: &mut [u64], at: usize) -> usize {
-        record::put_record(self.packet, self.octets, out, at)
+        record::put_record(*self.packet, self.octets, out, at)
     }
 }
 
@@ -46,7 +46,7 @@ fn answer_on(x: Option<Packet>, b: &[u8], out: &mut [u64]) -> Answer
     if 65535 < b.len() {
         return Err(Refusal::TooLong);
     }
-    let Some(packet) = x else {
+    let Some(packet) = &x else {
         return Err(Refusal::Unreadable);
     };
     put_record(&Known { packet, octets: b }, out)

@@ -5,9 +5,7 @@ use mathlib.Core.List.{List, ◌++◌}
 use native.Mathlib.Omega.{arith}
 use lib.ListN.{length, take, drop}
 use Rattle.chain.specs.Chain.{swapped, chain_ok}
-use borrow.Rule.Slice.PartMut.{put_mid}
 use Rattle.chain.proofs.Home.{homed-chain}
-use Rattle.chain.proofs.Laws.{rotated, length-swapped}
 use Rattle.chain.proofs.Moves.{still, before, inserted, at-end}
 use Rattle.chain.proofs.insert.Goals as goal
 
@@ -17,11 +15,13 @@ rehome-requires c =
     let pre = c.requires in
     let l = c.more.new.list in
     let h = c.more.new.home in
-    let e : put_mid a.p (a.n + a.m - a.p) l c.rotate_left.new.self ≡ swapped l a.p a.n (a.n + a.m) = rotated l c.rotate_left.new.self a.p a.n (a.n + a.m) pre.0 (omega arith) c.rotate_left.ensures.after in
+    let l' = c.swap_runs.new.list in
+    let e : l' ≡ swapped l a.p a.n (a.n + a.m) = c.swap_runs.ensures in
+    let ln : length l' ≡ length l = c.swap_runs.auto.list in
     let l0 : length l ≡ length a.list.now = c.more.auto.list in
     let h0 : length h ≡ length a.home.now = c.more.auto.home in
     let ch : chain_ok a.b (take (a.n + a.m) l) ≡ true = homed-chain h l a.b (a.n + a.m) c.more.ensures.1 (omega (arith, pre)) in
-    (omega (arith, pre), omega (arith, pre, l0, ap length e, length-swapped l a.p a.n (a.n + a.m) pre.0 (omega arith) (omega (arith, pre))), omega (arith, pre), omega (arith, pre, h0), rw e (still l a.p a.n (a.n + a.m) pre.0 (omega arith) (omega (arith, pre)) a.b ch), rw e (before l a.p a.n (a.n + a.m) pre.0 (omega arith) (omega (arith, pre)) h a.b c.more.ensures.1))
+    (omega (arith, pre), omega (arith, pre, ln), omega (arith, pre), omega (arith, pre, h0), rw e (still l a.p a.n (a.n + a.m) pre.0 (omega arith) (omega (arith, pre)) a.b ch), rw e (before l a.p a.n (a.n + a.m) pre.0 (omega arith) (omega (arith, pre)) h a.b c.more.ensures.1))
 
 pub returns-then-p-n : goal.returns-then-p-n
 returns-then-p-n c =
@@ -29,7 +29,7 @@ returns-then-p-n c =
     let pre = c.requires in
     let l = c.more.new.list in
     let l0 : length l ≡ length a.list.now = c.more.auto.list in
-    let e : put_mid a.p (a.n + a.m - a.p) l c.rotate_left.new.self ≡ swapped l a.p a.n (a.n + a.m) = rotated l c.rotate_left.new.self a.p a.n (a.n + a.m) pre.0 (omega arith) c.rotate_left.ensures.after in (
+    let e : c.swap_runs.new.list ≡ swapped l a.p a.n (a.n + a.m) = c.swap_runs.ensures in (
       ap (take (a.n + a.m)) e ∙ inserted a.list.now l a.n a.p a.m pre.0 (omega (arith, pre)) c.more.ensures.0
           ∙ ap (λ (x : List ℕ). take a.p a.list.now ++ (take a.m (drop a.p x) ++ take (a.n - a.p) (drop a.p a.list.now))) (sym e),
       c.rehome.ensures,
