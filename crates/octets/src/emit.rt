@@ -13,8 +13,10 @@ pub fn copy<T: Copy>(dst: &mut [T], at: usize, src: &[T], from: usize, n: usize)
 pub fn put_one<T: Copy>(out: &mut [T], at: usize, x: T) -> usize
     ensures { Emits out.old at (x ∷ []) out.new result }
 {
+    // In two, so that a place inside the output needs no test for the last one.
     if at < out.len() {
         out[at] = x;
+        return at + 1;
     }
     at.saturating_add(1)
 }
