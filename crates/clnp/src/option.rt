@@ -60,8 +60,8 @@ fn put_option(out: &mut [u64], at: usize, part: Part, t: u8, b: Body) -> usize
 }
 
 #[derive(Clone, Copy)]
-struct Options<'a> {
-    part: Part<'a>,
+pub struct Options<'a> {
+    pub part: Part<'a>,
 }
 
 impl Entries for Options<'_> {

@@ -1,5 +1,5 @@
 // The header of a CLNP PDU, as far as a piece of a unit needs it.
-ghost use Rattle.std.specs.Prelude.{◌≡◌, ◌&&◌, ◌+◌, ◌<◌, ◌≤◌, Err, IfOk, IfSome, MatchResult, length, drop};
+ghost use Rattle.std.specs.Prelude.{◌≡◌, ◌&&◌, ◌+◌, ◌<◌, ◌≤◌, Err, IfErr, IfOk, IfSome, MatchResult, length, drop};
 ghost use Rattle.cells.specs.Answer.{number_of};
 ghost use Rattle.clnp.specs.Segment.{headed as is_headed, sp, behind as behind_of, segment_of, address_ok, addresses_of, is_piece, tpdu_of, tpdu_answer, tpdu_place};
 
@@ -118,6 +118,7 @@ fn tpdu_of(b: &[u8]) -> Option<usize>
 // The data part of a whole DT PDU.
 pub fn clnp_cotp_tpdu<'a>(b: &'a [u8]) -> Result<&'a [u8], Refusal>
     ensures answer { MatchResult result (λ t. (tpdu_answer b.now (tpdu_of b.now) ≡ 0) × (t.now ≡ drop (tpdu_place b.now (tpdu_of b.now)) b.now)) (λ r. tpdu_answer b.now (tpdu_of b.now) ≡ number_of (Err r)) }
+    ensures refused { IfErr result (λ r. tpdu_place b.now (tpdu_of b.now) ≡ length b.now) }
     ensures ref_ptr_value { IfOk result (λ t. (t.ref_ptr.0 ≡ b.entry.ref_ptr.0) × (t.ref_ptr.1 ≡ tpdu_place b.now (tpdu_of b.now) + b.entry.ref_ptr.1)) }
 {
     if 65535 < b.len() {

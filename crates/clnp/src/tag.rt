@@ -164,8 +164,8 @@ pub fn tag_at(s: &[u8], i: usize) -> Option<Body>
 }
 
 #[derive(Clone, Copy)]
-struct Tags<'a> {
-    part: Part<'a>,
+pub struct Tags<'a> {
+    pub part: Part<'a>,
 }
 
 impl Entries for Tags<'_> {

@@ -4,167 +4,61 @@
 ghost use Rattle.std.specs.Prelude.{◌≡◌, []};
 ghost use Rattle.names.specs.Ascii.{octets};
 ghost use Rattle.codes.specs.Codes.{text_in, error_subcodes, clear_causes, reset_causes, restart_causes, diagnostics, esis_options, idrp_attributes, idrp_types, idrp_errors, clnp_options, traffic_types, atsc_classes, subnets, security_classes, disconnect_reasons, reject_causes, cotp_params, open_errors, update_errors, refresh_errors};
+ghost use Rattle.codes.specs.Entry.{lift};
+
+// The four of X.25 are tables, which `parse_x25` reads faster than matches (docs/SPEED.md).
+
+// An entry of a table of small numbers: 0 stands for other, and any other for that many on from base.
+fn lifted(other: u16, base: u16, t: u8) -> u32
+    ensures { result ≡ lift other base t }
+{
+    if t == 0 {
+        return other as u32;
+    }
+    base as u32 + t as u32
+}
 
 pub fn x25_clear_cause(c: u8) -> u32
     ensures { result ≡ text_in clear_causes [] c }
 {
-    match c {
-        0x00 => 1,
-        0x01 => 2,
-        0x03 => 3,
-        0x05 => 4,
-        0x09 => 5,
-        0x0D => 6,
-        0x13 => 7,
-        0x15 => 8,
-        0x19 => 9,
-        0x21 => 10,
-        0x29 => 11,
-        0x39 => 12,
-        _ => 0,
+    if c < 58 {
+        let table =
+            b"\x01\x02\x00\x03\x00\x04\x00\x00\x00\x05\x00\x00\x00\x06\x00\x00\x00\x00\x00\x07\x00\x08\x00\x00\x00\x09\x00\x00\x00\x00\x00\x00\x00\x0a\x00\x00\x00\x00\x00\x00\x00\x0b\x00\x00\x00\x00\x00\x00\x00\x00\x00\x00\x00\x00\x00\x00\x00\x0c";
+        return lifted(0, 0, table[c as usize]);
     }
+    0
 }
 
 pub fn x25_reset_cause(c: u8) -> u32
     ensures { result ≡ text_in reset_causes [] c }
 {
-    match c {
-        0x00 => 1,
-        0x01 => 13,
-        0x03 => 5,
-        0x05 => 7,
-        0x07 => 4,
-        0x09 => 14,
-        0x0F => 15,
-        0x11 => 10,
-        0x1D => 16,
-        _ => 0,
+    if c < 30 {
+        let table =
+            b"\x01\x0d\x00\x05\x00\x07\x00\x04\x00\x0e\x00\x00\x00\x00\x00\x0f\x00\x0a\x00\x00\x00\x00\x00\x00\x00\x00\x00\x00\x00\x10";
+        return lifted(0, 0, table[c as usize]);
     }
+    0
 }
 
 pub fn x25_restart_cause(c: u8) -> u32
     ensures { result ≡ text_in restart_causes [] c }
 {
-    match c {
-        0x01 => 7,
-        0x03 => 4,
-        0x07 => 15,
-        _ => 0,
+    if c < 8 {
+        let table = b"\x00\x07\x00\x04\x00\x00\x00\x0f";
+        return lifted(0, 0, table[c as usize]);
     }
+    0
 }
 
 pub fn x25_diagnostic(c: u8) -> u32
     ensures { result ≡ text_in diagnostics [] c }
 {
-    match c {
-        0x00 => 17,
-        0x01 => 18,
-        0x02 => 19,
-        0x10 => 20,
-        0x11 => 21,
-        0x12 => 22,
-        0x13 => 23,
-        0x14 => 24,
-        0x15 => 25,
-        0x16 => 26,
-        0x17 => 27,
-        0x18 => 28,
-        0x19 => 29,
-        0x1A => 30,
-        0x1B => 31,
-        0x1C => 32,
-        0x1D => 33,
-        0x20 => 34,
-        0x21 => 35,
-        0x22 => 36,
-        0x23 => 37,
-        0x24 => 38,
-        0x25 => 39,
-        0x26 => 40,
-        0x27 => 41,
-        0x28 => 42,
-        0x29 => 43,
-        0x2A => 44,
-        0x2B => 45,
-        0x2C => 46,
-        0x2D => 47,
-        0x2E => 48,
-        0x30 => 49,
-        0x31 => 50,
-        0x32 => 51,
-        0x33 => 52,
-        0x34 => 53,
-        0x35 => 54,
-        0x40 => 55,
-        0x41 => 56,
-        0x42 => 57,
-        0x43 => 58,
-        0x44 => 59,
-        0x45 => 60,
-        0x46 => 61,
-        0x47 => 62,
-        0x48 => 63,
-        0x49 => 64,
-        0x4A => 65,
-        0x4B => 66,
-        0x4C => 67,
-        0x4D => 68,
-        0x4E => 69,
-        0x50 => 70,
-        0x51 => 71,
-        0x52 => 72,
-        0x53 => 73,
-        0x54 => 74,
-        0x55 => 75,
-        0x70 => 76,
-        0x71 => 77,
-        0x72 => 78,
-        0x73 => 79,
-        0x74 => 80,
-        0x75 => 81,
-        0x76 => 82,
-        0x77 => 83,
-        0x78 => 84,
-        0x79 => 85,
-        0x7A => 86,
-        0x80 => 87,
-        0x81 => 88,
-        0x82 => 89,
-        0x83 => 90,
-        0x84 => 91,
-        0x85 => 92,
-        0x86 => 93,
-        0x87 => 94,
-        0x88 => 95,
-        0x8F => 96,
-        0x90 => 97,
-        0x91 => 98,
-        0x92 => 99,
-        0x93 => 100,
-        0xE1 => 101,
-        0xE2 => 102,
-        0xE3 => 103,
-        0xE4 => 104,
-        0xE5 => 105,
-        0xE6 => 106,
-        0xE7 => 107,
-        0xE8 => 108,
-        0xE9 => 109,
-        0xEA => 110,
-        0xEB => 111,
-        0xF0 => 112,
-        0xF1 => 113,
-        0xF2 => 114,
-        0xF3 => 115,
-        0xF4 => 116,
-        0xF5 => 117,
-        0xF6 => 118,
-        0xF7 => 119,
-        0xF8 => 120,
-        0xF9 => 121,
-        0xFA => 122,
-        _ => 0,
+    if c < 251 {
+        let table =
+            b"\x11\x12\x13\x00\x00\x00\x00\x00\x00\x00\x00\x00\x00\x00\x00\x00\x14\x15\x16\x17\x18\x19\x1a\x1b\x1c\x1d\x1e\x1f\x20\x21\x00\x00\x22\x23\x24\x25\x26\x27\x28\x29\x2a\x2b\x2c\x2d\x2e\x2f\x30\x00\x31\x32\x33\x34\x35\x36\x00\x00\x00\x00\x00\x00\x00\x00\x00\x00\x37\x38\x39\x3a\x3b\x3c\x3d\x3e\x3f\x40\x41\x42\x43\x44\x45\x00\x46\x47\x48\x49\x4a\x4b\x00\x00\x00\x00\x00\x00\x00\x00\x00\x00\x00\x00\x00\x00\x00\x00\x00\x00\x00\x00\x00\x00\x00\x00\x00\x00\x4c\x4d\x4e\x4f\x50\x51\x52\x53\x54\x55\x56\x00\x00\x00\x00\x00\x57\x58\x59\x5a\x5b\x5c\x5d\x5e\x5f\x00\x00\x00\x00\x00\x00\x60\x61\x62\x63\x64\x00\x00\x00\x00\x00\x00\x00\x00\x00\x00\x00\x00\x00\x00\x00\x00\x00\x00\x00\x00\x00\x00\x00\x00\x00\x00\x00\x00\x00\x00\x00\x00\x00\x00\x00\x00\x00\x00\x00\x00\x00\x00\x00\x00\x00\x00\x00\x00\x00\x00\x00\x00\x00\x00\x00\x00\x00\x00\x00\x00\x00\x00\x00\x00\x00\x00\x00\x00\x00\x00\x00\x00\x00\x00\x00\x00\x00\x65\x66\x67\x68\x69\x6a\x6b\x6c\x6d\x6e\x6f\x00\x00\x00\x00\x70\x71\x72\x73\x74\x75\x76\x77\x78\x79\x7a";
+        return lifted(0, 0, table[c as usize]);
     }
+    0
 }
 
 pub fn esis_option_name(c: u8) -> u32

@@ -58,10 +58,10 @@ fn put_param(out: &mut [u64], at: usize, depth: u8, part: Part, t: u8, b: Body) 
 }
 
 #[derive(Clone, Copy)]
-struct Params<'a> {
-    depth: u8,
-    part: Part<'a>,
-    ghost low: { depth < 14 },
+pub struct Params<'a> {
+    pub depth: u8,
+    pub part: Part<'a>,
+    pub ghost low: { depth < 14 },
 }
 
 impl Entries for Params<'_> {

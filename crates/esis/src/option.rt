@@ -27,8 +27,8 @@ fn put_option(out: &mut [u64], at: usize, t: u8, from: usize, n: usize) -> usize
 }
 
 #[derive(Clone, Copy)]
-struct Options<'a> {
-    part: Part<'a>,
+pub struct Options<'a> {
+    pub part: Part<'a>,
 }
 
 impl Entries for Options<'_> {

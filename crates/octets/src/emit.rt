@@ -7,7 +7,10 @@ pub fn copy<T: Copy>(dst: &mut [T], at: usize, src: &[T], from: usize, n: usize)
     requires { (at + n ≤ length dst.old) × (from + n ≤ length src.now) }
     ensures { dst.new ≡ put dst.old at (take n (drop from src.now)) }
 {
-    dst[at..at + n].copy_from_slice(&src[from..from + n]);
+    // Not `copy_from_slice`, which an archive would need `memmove` from outside for.
+    for j in 0..n {
+        dst[at + j] = src[from + j];
+    }
 }
 
 pub fn put_one<T: Copy>(out: &mut [T], at: usize, x: T) -> usize

@@ -11,7 +11,8 @@ use lib.Seq.{ext_get_or}
 use borrow.Author.Tests.{eq-eqb, eqb-true, ltb-true, ltb-false}
 use Rattle.octets.proofs.Tests.{all-at, all_of, no_true}
 use Rattle.tables.specs.Tables.{links, units, word}
-use Rattle.pool.specs.View.{Unit, blank, tab, start_of, unit_at, octets, pend, key_is, Found}
+use Rattle.std.specs.Prelude.{Option, Some, None}
+use Rattle.pool.specs.View.{Unit, blank, tab, start_of, unit_at, octets, pend, key_is, Found, Finds}
 use Rattle.pool.proofs.Tab.{length-tab, get_or-tab}
 use Rattle.pool.proofs.Expired.{link-view}
 
@@ -39,3 +40,10 @@ determined us key r q a b = go (ltb r q) refl (ltb q r) refl
     go true e y f = let h : r < q = ltb-true r q e in absurd (b.first r h (a.has (omega (arith, b.within))))
     go false e true f = let h : q < r = ltb-true q r f in absurd (a.first q h (b.has (omega (arith, a.within))))
     go false e false f = omega (arith, ltb-false r q e, ltb-false q r f)
+
+-- and so is the answer of a search
+pub found-determined : (us : List Unit) (key : List ℕ) (r q : Option ℕ) → Finds us key r → Finds us key q → r ≡ q
+found-determined us key None None a b = refl
+found-determined us key (Some r) (Some q) a b = ap Some (determined us key r q a.1 b.1)
+found-determined us key None (Some q) a b = absurd (omega (arith, determined us key (length us) q a b.1, b.0))
+found-determined us key (Some r) None a b = absurd (omega (arith, determined us key r (length us) a.1 b, a.0))

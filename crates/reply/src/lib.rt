@@ -85,6 +85,7 @@ pub fn reply(
     match read_line(l, packet) {
         Some(Line::X25(size)) => reply_x25(out, at, n, &packet[..size], cells, text),
         Some(Line::Network(size)) => reply_network(out, at, n, &packet[..size], cells, text),
-        Some(Line::Ordered(_)) | None => put_text_said(out, at, n, 17, &[]),
+        Some(Line::Ordered(_)) => put_text_said(out, at, n, 17, &[]),
+        None => put_text_said(out, at, n, 17, &[]),
     }
 }

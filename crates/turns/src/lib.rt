@@ -149,12 +149,12 @@ pub fn finish(
     if out.len() < n {
         return None;
     }
-    copy(out, d, piece, 0, piece.len());
     if let Some(j) = j {
         if keep {
             read(words, times, list, home, blocks, l, j, 0, out, 0);
         }
         remove(words, times, list, home, blocks, l, j);
     }
+    copy(out, d, piece, 0, piece.len());
     Some(n)
 }

@@ -1,19 +1,17 @@
 -- The walk over facilities: entries lie within the part, and give at most two cells an octet.
 use Rattle.std.specs.Prelude.{Option, Some, None}
-use Prim.Native.Nat.{ℕ, ◌+◌, ◌*◌, ◌-◌, ◌/◌, ◌≤◌, ◌<◌}
+use Prim.Native.Nat.{ℕ, ◌+◌, ◌*◌, ◌/◌, ◌≤◌}
 use mathlib.Core.Path.{◌≡◌, refl, sym, ap, subst, ◌∙◌}
 use mathlib.Core.List.{List, [], ◌++◌}
-use mathlib.Core.Bool.{false}
 use native.Mathlib.Omega.{arith}
 use borrow.Author.Tests.{leb-true}
 use lib.Dec.{ltb, leb}
 use lib.ListN.{length, get_or, length-append}
 use Rattle.octets.proofs.Picks.{pick_elim}
-use Rattle.names.specs.Numbers.{k_facilities}
-use Rattle.cells.specs.Items.{Items, none, group, in_list, ◌⊕◌, flat}
-use Rattle.cells.specs.Walk.{step_of, items_from, left_from}
+use Rattle.cells.specs.Items.{flat}
+use Rattle.cells.specs.Walk.{step_of}
 use Rattle.cells.specs.declared.entry.Body.{Body}
-use Rattle.cells.proofs.Walks.{Thin, thin, fuse, flat_walk, turn, done, over}
+use Rattle.cells.proofs.Walks.{Thin, thin, fuse, flat_walk}
 use Rattle.x25.specs.Facility.{body_at, fac_at, facility, fac_step, fac_items}
 
 -- an entry that was found has two octets or more, and ends within the part

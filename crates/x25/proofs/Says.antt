@@ -1,7 +1,7 @@
 -- What a packet that was read holds, and where its payload starts.
 use Prim.Native.Nat.{ℕ, ◌≤◌}
 use Rattle.std.specs.Prelude.{Option, Some, None, Ok, Err}
-use mathlib.Core.Path.{◌≡◌, refl, sym, ap, subst, ◌∙◌}
+use mathlib.Core.Path.{◌≡◌, refl, sym, ap, subst}
 use mathlib.Core.Bool.{Bool, true, false}
 use mathlib.Core.List.{List}
 use native.Mathlib.Omega.{arith}

@@ -46,8 +46,8 @@ fn put_facility(out: &mut [u64], at: usize, code: u8, from: usize, len: usize) -
 }
 
 #[derive(Clone, Copy)]
-struct Facilities<'a> {
-    part: Part<'a>,
+pub struct Facilities<'a> {
+    pub part: Part<'a>,
 }
 
 impl Entries for Facilities<'_> {

@@ -226,45 +226,49 @@ fn call_accepted(b: &[u8]) -> Packet
 }
 
 // What is neither data nor RR, RNR, REJ.
-fn control(b: &[u8], t: u8) -> Option<Packet>
+fn control(b: &[u8], t: u8) -> Packet
     requires { (2 < length b.now) × (0 < t % 2) × (t % 32 ≡ 1 → ⊥) × (t % 32 ≡ 5 → ⊥) × (t % 32 ≡ 9 → ⊥) }
-    ensures { result ≡ known (by_type b.now t) }
+    ensures { result ≡ by_type b.now t }
 {
     match t {
-        0x0B => Some(call_request(b)),
-        0x0F => Some(call_accepted(b)),
-        0x13 => Some(clear_request(b)),
-        0x1B => Some(reset_request(b)),
-        0xFB => Some(restart_request(b)),
-        0x17 => Some(plain(CLEAR_CONFIRMATION, channel(b), b.len())),
-        0x1F => Some(plain(RESET_CONFIRMATION, channel(b), b.len())),
-        0xFF => Some(plain(RESTART_CONFIRMATION, channel(b), b.len())),
-        0xF1 => Some(diagnostic(b)),
-        _ => None,
+        0x0B => call_request(b),
+        0x0F => call_accepted(b),
+        0x13 => clear_request(b),
+        0x1B => reset_request(b),
+        0xFB => restart_request(b),
+        0x17 => plain(CLEAR_CONFIRMATION, channel(b), b.len()),
+        0x1F => plain(RESET_CONFIRMATION, channel(b), b.len()),
+        0xFF => plain(RESTART_CONFIRMATION, channel(b), b.len()),
+        0xF1 => diagnostic(b),
+        _ => plain(0, 0, b.len()),
     }
 }
 
-fn by_type(b: &[u8], t: u8) -> Option<Packet>
+fn by_type(b: &[u8], t: u8) -> Packet
     requires { 2 < length b.now }
-    ensures { result ≡ known (by_type b.now t) }
+    ensures { result ≡ by_type b.now t }
 {
     if t % 2 == 0 {
-        return Some(sequenced(b, t));
+        return sequenced(b, t);
     }
     match t % 32 {
-        1 => Some(received(RR, b, t)),
-        5 => Some(received(RNR, b, t)),
-        9 => Some(received(REJ, b, t)),
+        1 => received(RR, b, t),
+        5 => received(RNR, b, t),
+        9 => received(REJ, b, t),
         _ => control(b, t),
     }
 }
 
-// Three octets or more, at modulo 8; nothing where they are not readable.
+// Three octets or more, at modulo 8; nothing where they are not readable, whose kind is 0.
 pub fn read(b: &[u8]) -> Option<Packet>
     ensures { result ≡ read_of b.now }
 {
     if b.len() < 3 || b[0] / 16 % 4 != 1 {
         return None;
     }
-    by_type(b, b[2])
+    let x = by_type(b, b[2]);
+    if x.kind == 0 {
+        return None;
+    }
+    Some(x)
 }

@@ -32,8 +32,8 @@ fn put_negotiated(out: &mut [u64], at: usize, o: Option<u8>, version: u8) -> usi
 }
 
 // The members that data packets have.
-fn put_head(x: Packet, out: &mut [u64], at: usize) -> usize
-    ensures { Emits out.old at (flat 1 (leaf k_lcn (number x.lcn) none ⊕ (leaf k_kind (text x.kind) none ⊕ (opt_number k_ps x.ps ⊕ (opt_number k_pr x.pr ⊕ leaf k_more (flag x.more) none))))) out.new result }
+fn put_head(x: &Packet, out: &mut [u64], at: usize) -> usize
+    ensures { Emits out.old at (flat 1 (leaf k_lcn (number x.now.lcn) none ⊕ (leaf k_kind (text x.now.kind) none ⊕ (opt_number k_ps x.now.ps ⊕ (opt_number k_pr x.now.pr ⊕ leaf k_more (flag x.now.more) none))))) out.new result }
 {
     let lcn = put_number(out, at, 1, LCN, x.lcn as u32);
     let kind = put_text_number(out, lcn, 1, KIND, x.kind);
@@ -42,8 +42,8 @@ fn put_head(x: Packet, out: &mut [u64], at: usize) -> usize
     put_flag(out, pr, 1, MORE, x.more)
 }
 
-fn put_causes(x: Packet, out: &mut [u64], at: usize) -> usize
-    ensures { Emits out.old at (flat 1 (opt_number k_cause x.cause ⊕ (opt_text k_cause_text x.causetext ⊕ (opt_number k_diagnostic x.diagnostic ⊕ opt_text k_diagnostic_text x.diagtext)))) out.new result }
+fn put_causes(x: &Packet, out: &mut [u64], at: usize) -> usize
+    ensures { Emits out.old at (flat 1 (opt_number k_cause x.now.cause ⊕ (opt_text k_cause_text x.now.causetext ⊕ (opt_number k_diagnostic x.now.diagnostic ⊕ opt_text k_diagnostic_text x.now.diagtext)))) out.new result }
 {
     let caused = put_octet(out, at, CAUSE, x.cause);
     let named = put_text_if(out, caused, 1, CAUSE_TEXT, x.causetext);
@@ -51,22 +51,30 @@ fn put_causes(x: Packet, out: &mut [u64], at: usize) -> usize
     put_text_if(out, told, 1, DIAGNOSTIC_TEXT, x.diagtext)
 }
 
-fn put_calls(x: Packet, b: &[u8], out: &mut [u64], at: usize) -> usize
-    requires { (length b.now < 65536) × (x.facat + x.faclen ≤ length b.now) }
-    ensures { Emits out.old at (flat 1 (fac_member b.now x ⊕ opt_sndcf x.sndcf x.version)) out.new result }
+fn put_calls(x: &Packet, b: &[u8], out: &mut [u64], at: usize) -> usize
+    requires { (length b.now < 65536) × (x.now.facat + x.now.faclen ≤ length b.now) }
+    ensures { Emits out.old at (flat 1 (fac_member b.now x.now ⊕ opt_sndcf x.now.sndcf x.now.version)) out.new result }
 {
     let from = x.facat;
     let listed = put_facilities(out, at, &b[from..from + x.faclen], from);
     put_negotiated(out, listed, x.sndcf, x.version)
 }
 
-pub fn put_record(x: Packet, b: &[u8], out: &mut [u64], at: usize) -> usize
-    requires { (length b.now < 65536) × (x.facat + x.faclen ≤ length b.now) }
-    ensures { Emits out.old at (flat 0 (record_of (members_of b.now x))) out.new result }
+// The same of a packet that is lent.
+pub fn put_packet(x: &Packet, b: &[u8], out: &mut [u64], at: usize) -> usize
+    requires { (length b.now < 65536) × (x.now.facat + x.now.faclen ≤ length b.now) }
+    ensures { Emits out.old at (flat 0 (record_of (members_of b.now x.now))) out.new result }
 {
     let opened = open_object(out, at, 0, 0);
     let head = put_head(x, out, opened);
     let causes = put_causes(x, out, head);
     let calls = put_calls(x, b, out, causes);
     close_group(out, calls, 0)
+}
+
+pub fn put_record(x: Packet, b: &[u8], out: &mut [u64], at: usize) -> usize
+    requires { (length b.now < 65536) × (x.facat + x.faclen ≤ length b.now) }
+    ensures { Emits out.old at (flat 0 (record_of (members_of b.now x))) out.new result }
+{
+    put_packet(&x, b, out, at)
 }

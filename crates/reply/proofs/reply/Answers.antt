@@ -6,7 +6,6 @@ use Rattle.std.specs.Prelude.{Some}
 use Rattle.octets.proofs.Emits.{emits_as}
 use Rattle.reply.proofs.Lines.{x25_carries, network_carries, x25_said, network_said, bad_reply, ordered_reply}
 use Rattle.reply.proofs.reply.Goals as goal
-use Rattle.reply.proofs.reply.Goals.{in-Some+in-Ordered-1, in-None-1}
 
 pub slice_bounds-reply_x25-end : goal.slice_bounds-reply_x25-end
 slice_bounds-reply_x25-end c =
@@ -41,9 +40,9 @@ returns-in-Some-Network c =
     emits_as (network_said a.l.now a.packet.now (length a.cells.now) (length a.text.now) a.n (c.read_line.ensures.value, c.read_line.ensures.packet_after) (x.is ∙ ap Some x.field-0-is) c.requires) c.reply_network.ensures
 
 pub returns-in-Some-Ordered : goal.returns-in-Some-Ordered
-returns-in-Some-Ordered c =
+returns-in-Some-Ordered c = emits_as (search (rules, ordered_reply)) c.put_text_said.ensures
+
+pub returns-in-None : goal.returns-in-None
+returns-in-None c =
     let a = c.args in
-    elim c.in-Some-Ordered-1.branch [
-      | in-Some+in-Ordered-1 w ↦ emits_as (search (rules, ordered_reply)) c.put_text_said.ensures
-      | in-None-1 w ↦ emits_as (bad_reply (length a.cells.now) (length a.text.now) a.n a.l.now c.read_line.ensures.value (cc)) c.put_text_said.ensures
-    ]
+    emits_as (bad_reply (length a.cells.now) (length a.text.now) a.n a.l.now c.read_line.ensures.value c.in-None.is) c.put_text_said-in-None.ensures

@@ -1,18 +1,19 @@
 use Prim.Native.Nat.{ℕ, ◌<◌}
-use mathlib.Core.Path.{◌≡◌, ap, ◌∙◌}
+use mathlib.Core.Path.{◌≡◌, refl, sym, ap, ◌∙◌}
 use mathlib.Core.Bool.{cond}
-use mathlib.Core.List.{[]}
+use mathlib.Core.List.{List, []}
 use native.Mathlib.Omega.{arith}
-use lib.ListN.{length}
+use lib.ListN.{length, get_or}
 use lib.Seq.{take-length}
 use Rattle.octets.specs.Emit.{put}
 use Rattle.tables.specs.Tables.{units}
-use Rattle.pool.specs.View.{pend, unit_of}
+use Rattle.pool.specs.View.{Unit, blank, pend}
+use Rattle.octets.proofs.Put.{put_nil}
 use Rattle.pool.proofs.Good.{Good, good}
 use Rattle.pool.proofs.Read.{part-long}
 use Rattle.pool.proofs.Expired.{view-long}
-use Rattle.turns.proofs.Ended.{in_front, removed-past}
-use Rattle.turns.proofs.finish.Goals.{In-Some, then-keep, else-keep}
+use Rattle.turns.proofs.Ended.{both, none-kept, put-none, removed-past}
+use Rattle.turns.proofs.finish.Goals.{In-Some, in-Some, in_default, then-keep, else-keep}
 use Rattle.turns.proofs.finish.Goals as goal
 
 gd : (c : In-Some) → Good c.args.words.now c.args.times.now c.args.list.now c.args.home.now c.args.blocks.now
@@ -29,20 +30,29 @@ read-requires-clause-in_range c =
     let d = rw (c.if-keep.true, c.in-Some.is) at c.kept-d.ensures.0 in
     (c.requires.in_range.0, here s, omega arith, omega (arith, long, d))
 
-pub returns-after-keep-clause-finished : goal.returns-after-keep-clause-finished
-returns-after-keep-clause-finished c =
-    let s = (goal.at.returns-after-keep-clause-finished c).In-Some in
+pub returns-clause-finished : goal.returns-clause-finished
+returns-clause-finished c =
     let a = c.args in
-    let body = (unit_of (pend a.words.now a.times.now a.list.now a.blocks.now) a.l c.in-Some.j).body in
-    let d : c.kept-d.result ≡ length (cond a.keep body []) = rw c.in-Some.is at c.kept-d.ensures.0 in
-    rw c.in-Some.is
-    (elim c.if-keep.branch [
-      | then-keep w ↦ w.out-is ∙ w.read.ensures.copied ∙ rw w.if-keep.true (in_front a.out.now body a.piece.now c.kept-d.result (rw w.if-keep.true at d) c.if-out-n.false c.copy.new.dst c.copy.ensures)
-      | else-keep w ↦ w.out-is ∙ c.copy.ensures ∙ ap (put a.out.now c.kept-d.result) (take-length a.piece.now) ∙ rw w.if-keep.false (ap (λ (k : ℕ). put a.out.now k a.piece.now) (rw w.if-keep.false at d))
-    ])
+    let us : List Unit = get_or (pend a.words.now a.times.now a.list.now a.blocks.now) a.l [] in
+    elim c.match-j.branch [
+      | in-Some w ↦
+          let body = (get_or us w.in-Some.j blank).body in
+          rw w.in-Some.is (both a.out.now (cond a.keep body []) a.piece.now c.kept-d.result (rw w.in-Some.is at c.kept-d.ensures.0) c.match-j.out c.copy.new.dst
+          (w.out-is ∙ (elim w.if-keep.branch [
+            | then-keep v ↦ v.out-is ∙ v.read.ensures.copied ∙ rw v.if-keep.true refl
+            | else-keep v ↦ v.out-is ∙ rw v.if-keep.false (sym (put_nil a.out.now 0))
+          ])) c.copy.ensures)
+      | in_default w ↦
+          let kept = cond a.keep (get_or us (length us) blank).body [] in
+          rw w.in_default.is (both a.out.now kept a.piece.now c.kept-d.result (rw w.in_default.is at c.kept-d.ensures.0) c.match-j.out c.copy.new.dst
+          (w.out-is ∙ put-none a.out.now kept (none-kept a.keep us)) c.copy.ensures)
+    ]
 
-pub returns-in_default-clause-pending : goal.returns-in_default-clause-pending
-returns-in_default-clause-pending c =
+pub returns-clause-pending : goal.returns-clause-pending
+returns-clause-pending c =
     let a = c.args in
     let many = view-long a.words.now a.times.now a.list.now a.blocks.now a.l c.requires.in_range.0 in
-    rw c.in_default.is (removed-past a.words.now a.times.now a.list.now a.blocks.now a.l _ c.requires.in_range.0 (omega (arith, many)))
+    elim c.match-j.branch [
+      | in-Some w ↦ rw (w.in-Some.is, w.words-is, w.times-is, w.list-is) w.remove.ensures.pending
+      | in_default w ↦ rw (w.in_default.is, w.words-is, w.times-is, w.list-is) (removed-past a.words.now a.times.now a.list.now a.blocks.now a.l _ c.requires.in_range.0 (omega (arith, many)))
+    ]

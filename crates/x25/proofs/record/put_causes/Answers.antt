@@ -7,7 +7,7 @@ use Rattle.x25.proofs.record.put_causes.Goals as goal
 
 pub returns : goal.returns
 returns c =
-    let x = c.args.x in
+    let x = c.args.x.now in
     let cause = opt_number k_cause x.cause in
     let named = opt_text k_cause_text x.causetext in
     let told = opt_number k_diagnostic x.diagnostic in

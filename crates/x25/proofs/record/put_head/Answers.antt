@@ -6,7 +6,7 @@ use Rattle.x25.proofs.record.put_head.Goals as goal
 
 pub returns : goal.returns
 returns c =
-    let x = c.args.x in
+    let x = c.args.x.now in
     let l : Items = leaf k_lcn (number x.lcn) none in
     let k : Items = leaf k_kind (text x.kind) none in
     let s = opt_number k_ps x.ps in
