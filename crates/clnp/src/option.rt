@@ -11,7 +11,7 @@ use cells::emit::{
     close_group, open_object, put_hex_part, put_number, put_octet_leaf, put_text_number,
 };
 use cells::entry::Body;
-use cells::walk::{Entries, put_list};
+use cells::walk::{Entries, put_entries, put_list};
 use codes::clnp_option_name;
 use fields::member::put_text_if;
 use fields::part::Part;
@@ -60,11 +60,11 @@ fn put_option(out: &mut [u64], at: usize, part: Part, t: u8, b: Body) -> usize
 }
 
 #[derive(Clone, Copy)]
-pub struct Options<'a> {
-    pub part: Part<'a>,
+struct OptionList<'a> {
+    part: Part<'a>,
 }
 
-impl Entries for Options<'_> {
+impl Entries for OptionList<'_> {
     ghost size = { λ o. length o.part.octets.now };
 
     ghost depth = { λ o. 1 };
@@ -92,11 +92,26 @@ impl Entries for Options<'_> {
     }
 }
 
-// The options of a part that stands at place base of the input, as a member, which is left out where there is none.
+// The options of a part that stands at place base of the input.
+pub fn options(out: &mut [u64], at: usize, base: usize, s: &[u8]) -> usize
+    requires { base + length s.now < 65536 }
+    ensures { Emits out.old at (flat 2 (option_items base s.now)) out.new result }
+{
+    put_entries(
+        &OptionList {
+            part: Part { base, octets: s },
+        },
+        out,
+        at,
+        0,
+    )
+}
+
+// As a member, which is left out where there is none.
 pub fn put_options(out: &mut [u64], at: usize, base: usize, s: &[u8]) -> usize
     requires { base + length s.now < 65536 }
     ensures { Emits out.old at (flat 1 (in_list k_options (option_items base s.now))) out.new result }
 {
     let part = Part { base, octets: s };
-    put_list(&Options { part }, out, at, OPTIONS, 0)
+    put_list(&OptionList { part }, out, at, OPTIONS, 0)
 }

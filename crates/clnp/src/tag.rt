@@ -8,7 +8,7 @@ ghost use Rattle.clnp.specs.Label.{Names, bit_name, bit_names, traffic_name, cat
 
 use cells::emit::{close_group, open_list, open_object, put_hex_part, put_number, put_text_number};
 use cells::entry::Body;
-use cells::walk::{Entries, put_list};
+use cells::walk::{Entries, put_entries, put_list};
 use codes::{atn_security_class_name, atn_subnet_name, atn_traffic_type_name, atsc_class_name};
 use fields::member::put_text_if;
 use fields::part::Part;
@@ -164,11 +164,11 @@ pub fn tag_at(s: &[u8], i: usize) -> Option<Body>
 }
 
 #[derive(Clone, Copy)]
-pub struct Tags<'a> {
-    pub part: Part<'a>,
+struct TagList<'a> {
+    part: Part<'a>,
 }
 
-impl Entries for Tags<'_> {
+impl Entries for TagList<'_> {
     ghost size = { λ t. length t.part.octets.now };
 
     ghost depth = { λ t. 4 };
@@ -196,11 +196,26 @@ impl Entries for Tags<'_> {
     }
 }
 
-// The tag sets of a part that stands at place base of the input, as a member, which is left out where there is none.
+// The tag sets of a part that stands at place base of the input.
+pub fn tags(out: &mut [u64], at: usize, base: usize, s: &[u8]) -> usize
+    requires { base + length s.now < 65536 }
+    ensures { Emits out.old at (flat 5 (tag_items base s.now)) out.new result }
+{
+    put_entries(
+        &TagList {
+            part: Part { base, octets: s },
+        },
+        out,
+        at,
+        0,
+    )
+}
+
+// As a member, which is left out where there is none.
 pub fn put_tags(out: &mut [u64], at: usize, base: usize, s: &[u8]) -> usize
     requires { base + length s.now < 65536 }
     ensures { Emits out.old at (flat 4 (in_list k_sec_info (tag_items base s.now))) out.new result }
 {
     let part = Part { base, octets: s };
-    put_list(&Tags { part }, out, at, SEC_INFO, 0)
+    put_list(&TagList { part }, out, at, SEC_INFO, 0)
 }

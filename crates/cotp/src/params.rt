@@ -58,13 +58,13 @@ fn put_param(out: &mut [u64], at: usize, depth: u8, part: Part, t: u8, b: Body) 
 }
 
 #[derive(Clone, Copy)]
-pub struct Params<'a> {
-    pub depth: u8,
-    pub part: Part<'a>,
-    pub ghost low: { depth < 14 },
+struct ParamList<'a> {
+    depth: u8,
+    part: Part<'a>,
+    ghost low: { depth < 14 },
 }
 
-impl Entries for Params<'_> {
+impl Entries for ParamList<'_> {
     ghost size = { λ p. length p.part.octets.now };
 
     ghost depth = { λ p. p.depth };
@@ -92,11 +92,29 @@ impl Entries for Params<'_> {
     }
 }
 
-// The parameters of a part that stands at place base of the input, as a member, which is left out where there is none.
+// The parameters of a part that stands at place base of the input.
+pub fn params(out: &mut [u64], at: usize, depth: u8, base: usize, s: &[u8]) -> usize
+    requires { (depth < 15) × (base + length s.now < 65536) }
+    ensures { Emits out.old at (flat depth (param_items base s.now)) out.new result }
+{
+    // Not `put_entries`: its entries stand in a list, so never at depth 0. No `for`: where one begins, the one before says.
+    let mut i = 0;
+    let mut next = at;
+    while i < s.len() {
+        let Some(b) = tlv_at(s, i) else {
+            return next;
+        };
+        next = put_param(out, next, depth, Part { base, octets: s }, s[i], b);
+        i = b.start + b.len;
+    }
+    next
+}
+
+// As a member, which is left out where there is none.
 pub fn put_params(out: &mut [u64], at: usize, depth: u8, base: usize, s: &[u8]) -> usize
     requires { (depth < 14) × (base + length s.now < 65536) }
     ensures { Emits out.old at (flat depth (in_list k_params (param_items base s.now))) out.new result }
 {
     let part = Part { base, octets: s };
-    put_list(&Params { depth, part }, out, at, PARAMS, 0)
+    put_list(&ParamList { depth, part }, out, at, PARAMS, 0)
 }

@@ -8,7 +8,7 @@ ghost use Rattle.esis.specs.Pdu.{option, option_items};
 
 use cells::emit::{close_group, open_object, put_hex_part, put_number, put_text_number};
 use cells::entry::Body;
-use cells::walk::{Entries, put_list};
+use cells::walk::{Entries, put_entries, put_list};
 use codes::esis_option_name;
 use fields::part::Part;
 use fields::tlv::tlv_at;
@@ -27,11 +27,11 @@ fn put_option(out: &mut [u64], at: usize, t: u8, from: usize, n: usize) -> usize
 }
 
 #[derive(Clone, Copy)]
-pub struct Options<'a> {
-    pub part: Part<'a>,
+struct OptionList<'a> {
+    part: Part<'a>,
 }
 
-impl Entries for Options<'_> {
+impl Entries for OptionList<'_> {
     ghost size = { λ o. length o.part.octets.now };
 
     ghost depth = { λ o. 1 };
@@ -65,13 +65,22 @@ impl Entries for Options<'_> {
     }
 }
 
-// The options of a part that stands at place base of the input, as a member, which is left out where there is none.
+// The options of a part that stands at place base of the input.
+pub fn options(out: &mut [u64], at: usize, base: usize, s: &[u8]) -> usize
+    requires { base + length s.now < 65536 }
+    ensures { Emits out.old at (flat 2 (option_items base s.now)) out.new result }
+{
+    let part = Part { base, octets: s };
+    put_entries(&OptionList { part }, out, at, 0)
+}
+
+// As a member, which is left out where there is none.
 pub fn put_options(out: &mut [u64], at: usize, base: usize, s: &[u8]) -> usize
     requires { base + length s.now < 65536 }
     ensures { Emits out.old at (flat 1 (in_list k_options (option_items base s.now))) out.new result }
 {
     put_list(
-        &Options {
+        &OptionList {
             part: Part { base, octets: s },
         },
         out,

@@ -7,7 +7,7 @@ ghost use Rattle.x25.specs.Facility.{facility, fac_at, fac_items};
 
 use cells::emit::{close_group, open_object, put_hex_part, put_octet_leaf};
 use cells::entry::Body;
-use cells::walk::{Entries, put_list};
+use cells::walk::{Entries, put_entries, put_list};
 use fields::part::Part;
 use names::key::{CODE, FACILITIES, PARAMS};
 use octets::read::wide;
@@ -46,11 +46,11 @@ fn put_facility(out: &mut [u64], at: usize, code: u8, from: usize, len: usize) -
 }
 
 #[derive(Clone, Copy)]
-pub struct Facilities<'a> {
-    pub part: Part<'a>,
+struct FacilityList<'a> {
+    part: Part<'a>,
 }
 
-impl Entries for Facilities<'_> {
+impl Entries for FacilityList<'_> {
     ghost size = { λ f. length f.part.octets.now };
 
     ghost depth = { λ f. 1 };
@@ -84,13 +84,22 @@ impl Entries for Facilities<'_> {
     }
 }
 
-// The facilities of a part that stands at place base of the input, as a member, which is left out where there is none.
+// The facilities of a part that stands at place base of the input.
+pub fn facilities(out: &mut [u64], at: usize, s: &[u8], base: usize) -> usize
+    requires { base + length s.now < 65536 }
+    ensures { Emits out.old at (flat 2 (fac_items base s.now)) out.new result }
+{
+    let part = Part { base, octets: s };
+    put_entries(&FacilityList { part }, out, at, 0)
+}
+
+// As a member, which is left out where there is none.
 pub fn put_facilities(out: &mut [u64], at: usize, s: &[u8], base: usize) -> usize
     requires { base + length s.now < 65536 }
     ensures { Emits out.old at (flat 1 (in_list k_facilities (fac_items base s.now))) out.new result }
 {
     put_list(
-        &Facilities {
+        &FacilityList {
             part: Part { base, octets: s },
         },
         out,

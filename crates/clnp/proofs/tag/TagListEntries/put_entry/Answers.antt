@@ -1,7 +1,7 @@
 use mathlib.Core.Path.{subst}
 use native.Mathlib.Omega.{arith}
 use Rattle.clnp.proofs.Tags.{Whole, tag-whole}
-use Rattle.clnp.proofs.tag.TagsEntries.put_entry.Goals as goal
+use Rattle.clnp.proofs.tag.TagListEntries.put_entry.Goals as goal
 
 pub bounds-self-i : goal.bounds-self-i
 bounds-self-i c =
